@@ -1,0 +1,3 @@
+pub mod Program
+pub mod Kinds
+pub mod Seen
