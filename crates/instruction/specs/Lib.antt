@@ -1,3 +1,4 @@
 pub mod Program
 pub mod Kinds
+pub mod Allowed
 pub mod Seen

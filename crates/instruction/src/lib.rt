@@ -3,6 +3,7 @@ ghost use mathlib.Core.Path.{_≡_};
 ghost use Rattle.std.specs.Options.{mapped};
 ghost use Rattle.instruction.specs.Kinds.{fields as fieldsOf, constant-of, mode-of, decoded, signed};
 ghost use Rattle.instruction.specs.Program.Instr.{load-const};
+ghost use Rattle.instruction.specs.Allowed.{Uses, uses, small-allowed, fields-allowed, constant-allowed};
 ghost use Rattle.instruction.specs.Seen.{instruction-seen, constant-seen, mode-seen};
 
 pub mod instructions;
@@ -14,8 +15,10 @@ use instructions::Constant;
 use instructions::Instruction;
 use kind::Fields;
 use layout::Layout;
+use layout::records::ConstantRecord;
 use layout::records::InstructionRecord;
 use local_id::LocalId;
+use local_id::MAX_LOCALS;
 
 // Which fields the kind with this number takes.
 pub fn fields_of_kind(kind: u8) -> Fields
@@ -41,6 +44,84 @@ fn signed_of(n: u32) -> i32
     ensures { λ r. ⌜ r ≡ signed n ⌝ }
 {
     if n < 0x8000_0000 { n as i32 } else { -1 - (u32::MAX - n) as i32 }
+}
+
+impl Fields {
+    pub fn is_allowed(self) -> bool
+        ensures { λ r. ⌜ r ≡ uses self .allowed ⌝ }
+    {
+        match self {
+            Fields::LeftOut => false,
+            _ => true,
+        }
+    }
+
+    pub fn takes_text(self) -> bool
+        ensures { λ r. ⌜ r ≡ uses self .text ⌝ }
+    {
+        match self {
+            Fields::Text | Fields::TextAndCount | Fields::Cached => true,
+            _ => false,
+        }
+    }
+
+    fn takes_count(self) -> bool
+        ensures { λ r. ⌜ r ≡ uses self .count ⌝ }
+    {
+        match self {
+            Fields::Count | Fields::TextAndCount | Fields::Cached => true,
+            _ => false,
+        }
+    }
+
+    pub fn takes_constant(self) -> bool
+        ensures { λ r. ⌜ r ≡ uses self .constant ⌝ }
+    {
+        match self {
+            Fields::Constant => true,
+            _ => false,
+        }
+    }
+
+    pub fn takes_target(self) -> bool
+        ensures { λ r. ⌜ r ≡ uses self .target ⌝ }
+    {
+        match self {
+            Fields::Target => true,
+            _ => false,
+        }
+    }
+
+    fn small_allowed(self, small: u8) -> bool
+        ensures { λ r. ⌜ r ≡ small-allowed self small ⌝ }
+    {
+        match self {
+            Fields::Cached => small < MAX_LOCALS || small == 255,
+            Fields::LoopFlags => small <= 3,
+            Fields::CaptureMode => small <= 1,
+            Fields::LeftOut => true,
+            _ => small == 0,
+        }
+    }
+
+    // Each field that the instruction does not take is zero, and `small` is one that it may have.
+    pub fn fields_allowed(self, raw: InstructionRecord) -> bool
+        ensures { λ r. ⌜ r ≡ fields-allowed self raw ⌝ }
+    {
+        let small = self.small_allowed(raw.small);
+        let argc = self.takes_count() || raw.argc == 0;
+        let a = self.takes_text() || self.takes_constant() || self.takes_target() || raw.a == 0;
+        let b = self.takes_text() || raw.b == 0;
+        small && argc && a && b && raw.zero == 0
+    }
+}
+
+pub fn constant_allowed(raw: ConstantRecord) -> bool
+    ensures { λ r. ⌜ r ≡ constant-allowed raw ⌝ }
+{
+    let a = raw.kind >= 3 || raw.a == 0;
+    let b = raw.kind >= 4 || raw.b == 0;
+    a && b
 }
 
 impl CaptureMode {

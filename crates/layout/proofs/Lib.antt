@@ -1,1 +1,3 @@
 pub mod Clipped
+pub mod EachBelow
+pub mod CountBelow

@@ -63,18 +63,23 @@ template b i = let p : ℕ = at b Templates i in record {
     «name_offset» = u32 b p; «name_length» = u32 b (p + 4); main = u32 b (p + 8);
     «first_block» = u32 b (p + 12); «block_count» = u32 b (p + 16) }
 
+abbrev pub block-at : List ℕ → ℕ → BlockRecord
+block-at b p = record { «name_offset» = u32 b p; «name_length» = u32 b (p + 4); code = u32 b (p + 8) }
+
 abbrev pub block : List ℕ → ℕ → BlockRecord
-block b i = let p : ℕ = at b Blocks i in record {
-    «name_offset» = u32 b p; «name_length» = u32 b (p + 4); code = u32 b (p + 8) }
+block b i = block-at b (at b Blocks i)
 
 abbrev pub code : List ℕ → ℕ → CodeRecord
 code b i = let p : ℕ = at b Codes i in record {
     «first_instruction» = u32 b p; «instruction_count» = u32 b (p + 4); flag = u32 b (p + 8) }
 
-abbrev pub instruction : List ℕ → ℕ → InstructionRecord
-instruction b i = let p : ℕ = at b Instructions i in record {
+abbrev pub instruction-at : List ℕ → ℕ → InstructionRecord
+instruction-at b p = record {
     kind = byte b p; small = byte b (p + 1); argc = u16 b (p + 2); a = u32 b (p + 4); b = u32 b (p + 8);
     line = u16 b (p + 12); zero = u16 b (p + 14) }
+
+abbrev pub instruction : List ℕ → ℕ → InstructionRecord
+instruction b i = instruction-at b (at b Instructions i)
 
 abbrev pub constant : List ℕ → ℕ → ConstantRecord
 constant b i = let p : ℕ = at b Constants i in record { kind = u32 b p; a = u32 b (p + 4); b = u32 b (p + 8) }

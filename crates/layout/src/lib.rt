@@ -4,7 +4,7 @@ ghost use mathlib.Core.Path.{_≡_};
 ghost use Prim.Native.Nat.{ℕ, _+_, _*_, _^_, _<_, _≤_};
 ghost use mathlib.Core.List.{List};
 ghost use lib.ListN.{length, getD, take, drop};
-ghost use Rattle.layout.specs.Layout.{byte, u16 as half, u32 as word, records as recordsOf, start, extent as extentOf, header as headerOf, size as sizeOf, place, at, template as templateOf, block as blockOf, code as codeOf, instruction as instructionOf, constant as constantOf, text as textOf};
+ghost use Rattle.layout.specs.Layout.{byte, u16 as half, u32 as word, records as recordsOf, start, extent as extentOf, header as headerOf, size as sizeOf, place, at, template as templateOf, block-at, block as blockOf, code as codeOf, instruction-at, instruction as instructionOf, constant as constantOf, text as textOf};
 
 pub mod records;
 pub mod section;
@@ -125,6 +125,13 @@ impl<'b> Layout<'b> {
         self.offset(section) as usize + section.record_size() as usize * number as usize
     }
 
+    // Where the record begins that stands `place` records after the record `first`.
+    fn record_from(self, section: Section, first: u32, place: u32) -> usize
+        ensures { λ r. ⌜ r ≡ at (now (self .entry .bytes)) section (first + place) ⌝ ∗ ⌜ r < 2 ^ 40 ⌝ }
+    {
+        self.offset(section) as usize + section.record_size() as usize * (first as usize + place as usize)
+    }
+
     pub fn template(self, number: u32) -> TemplateRecord
         ensures { λ r. ⌜ r ≡ templateOf (now (self .entry .bytes)) number ⌝ }
     {
@@ -138,15 +145,28 @@ impl<'b> Layout<'b> {
         }
     }
 
-    pub fn block(self, number: u32) -> BlockRecord
-        ensures { λ r. ⌜ r ≡ blockOf (now (self .entry .bytes)) number ⌝ }
+    fn block_at(self, at: usize) -> BlockRecord
+        requires { ⌜ at < 2 ^ 40 ⌝ }
+        ensures { λ r. ⌜ r ≡ block-at (now (self .entry .bytes)) at ⌝ }
     {
-        let at = self.record_at(Section::Blocks, number);
         BlockRecord {
             name_offset: u32_at(self.bytes, at),
             name_length: u32_at(self.bytes, at + 4),
             code: u32_at(self.bytes, at + 8),
         }
+    }
+
+    pub fn block(self, number: u32) -> BlockRecord
+        ensures { λ r. ⌜ r ≡ blockOf (now (self .entry .bytes)) number ⌝ }
+    {
+        self.block_at(self.record_at(Section::Blocks, number))
+    }
+
+    // The block that stands `place` records after the block `first`.
+    pub fn block_from(self, first: u32, place: u32) -> BlockRecord
+        ensures { λ r. ⌜ r ≡ blockOf (now (self .entry .bytes)) (first + place) ⌝ }
+    {
+        self.block_at(self.record_from(Section::Blocks, first, place))
     }
 
     pub fn code(self, number: u32) -> CodeRecord
@@ -160,10 +180,10 @@ impl<'b> Layout<'b> {
         }
     }
 
-    pub fn instruction(self, number: u32) -> InstructionRecord
-        ensures { λ r. ⌜ r ≡ instructionOf (now (self .entry .bytes)) number ⌝ }
+    fn instruction_at(self, at: usize) -> InstructionRecord
+        requires { ⌜ at < 2 ^ 40 ⌝ }
+        ensures { λ r. ⌜ r ≡ instruction-at (now (self .entry .bytes)) at ⌝ }
     {
-        let at = self.record_at(Section::Instructions, number);
         InstructionRecord {
             kind: u8_at(self.bytes, at),
             small: u8_at(self.bytes, at + 1),
@@ -173,6 +193,19 @@ impl<'b> Layout<'b> {
             line: u16_at(self.bytes, at + 12),
             zero: u16_at(self.bytes, at + 14),
         }
+    }
+
+    pub fn instruction(self, number: u32) -> InstructionRecord
+        ensures { λ r. ⌜ r ≡ instructionOf (now (self .entry .bytes)) number ⌝ }
+    {
+        self.instruction_at(self.record_at(Section::Instructions, number))
+    }
+
+    // The instruction that stands `place` records after the instruction `first`.
+    pub fn instruction_from(self, first: u32, place: u32) -> InstructionRecord
+        ensures { λ r. ⌜ r ≡ instructionOf (now (self .entry .bytes)) (first + place) ⌝ }
+    {
+        self.instruction_at(self.record_from(Section::Instructions, first, place))
     }
 
     pub fn constant(self, number: u32) -> ConstantRecord
