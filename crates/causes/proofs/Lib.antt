@@ -1,0 +1,4 @@
+pub mod HeaderBounds
+pub mod Tallies
+pub mod Firsts
+pub mod Search
