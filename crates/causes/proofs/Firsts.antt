@@ -29,7 +29,12 @@ pub record Firsts (b : List ℕ) (i n : ℕ) (firsts : List ℕ) : Type 0 where
 
 pub firsts-none : (b firsts : List ℕ) → length firsts ≡ 32 → Firsts b 0 0 firsts
 firsts-none b firsts e = record {
-    few = omega arith; long = e; counted = refl; earlier = λ k l. absurd (omega arith); covers = λ j l. absurd (omega arith) }
+  few = omega arith;
+  long = e;
+  counted = refl;
+  earlier = λ k l. absurd (omega arith);
+  covers = λ j l. absurd (omega arith);
+}
 
 same-yes : (x y : List ℕ) → x ≡ y → not (sameBytes x y) ≡ false
 same-yes x y e = not-from-true (sameBytes x y) (sameBytes-decides x y .1 e)
@@ -49,20 +54,20 @@ module _ (b : List ℕ) (i n : ℕ) (firsts : List ℕ) (h : Firsts b i n firsts
   among-is-new =
       ⊎-elim
       (λ (t : new-name (block-name b) i ≡ true).
-        each-from (other-than b (take n firsts) i) (length (take n firsts))
-        (λ k l.
-          let m : k < n = omega (arith, within) in
-          subst (λ x. not (sameBytes (block-name b x) (block-name b i)) ≡ true) (sym (at-front k m))
-          (each-at (other-name (block-name b) i) i (getD firsts k 0) t (h .earlier k m)))
-        ∙ sym t)
+      each-from (other-than b (take n firsts) i) (length (take n firsts))
+      (λ k l.
+      let m : k < n = omega (arith, within) in
+      subst (λ x. not (sameBytes (block-name b x) (block-name b i)) ≡ true) (sym (at-front k m))
+      (each-at (other-name (block-name b) i) i (getD firsts k 0) t (h .earlier k m)))
+      ∙ sym t)
       (λ (f : new-name (block-name b) i ≡ false).
-        let r = each-breaks (other-name (block-name b) i) i f in
-        let w = h .covers (r .0) (r .1) in
-        let same : block-name b (getD firsts (w .0) 0) ≡ block-name b i = w .2 ∙ same-from (block-name b (r .0)) (block-name b i) (r .3) in
-        each-not (other-than b (take n firsts) i) (length (take n firsts)) (w .0) (omega (arith, within, w .1))
-        (subst (λ x. not (sameBytes (block-name b x) (block-name b i)) ≡ false) (sym (at-front (w .0) (w .1)))
-          (same-yes (block-name b (getD firsts (w .0) 0)) (block-name b i) same))
-        ∙ sym f)
+      let r = each-breaks (other-name (block-name b) i) i f in
+      let w = h .covers (r .0) (r .1) in
+      let same : block-name b (getD firsts (w .0) 0) ≡ block-name b i = w .2 ∙ same-from (block-name b (r .0)) (block-name b i) (r .3) in
+      each-not (other-than b (take n firsts) i) (length (take n firsts)) (w .0) (omega (arith, within, w .1))
+      (subst (λ x. not (sameBytes (block-name b x) (block-name b i)) ≡ false) (sym (at-front (w .0) (w .1)))
+      (same-yes (block-name b (getD firsts (w .0) 0)) (block-name b i) same))
+      ∙ sym f)
       (cases-bool (new-name (block-name b) i))
 
   module _ (new : new-among b (take n firsts) i ≡ true) where
@@ -83,19 +88,20 @@ module _ (b : List ℕ) (i n : ℕ) (firsts : List ℕ) (h : Firsts b i n firsts
 
     pub firsts-more : n < 32 → Firsts b (i + 1) (n + 1) (set firsts n i)
     firsts-more l = record {
-        few = omega arith;
-        long = length-set firsts n i ∙ h .long;
-        counted = counted-new;
-        earlier = λ k m. ⊎-elim
+      few = omega arith;
+      long = length-set firsts n i ∙ h .long;
+      counted = counted-new;
+      earlier = λ k m. ⊎-elim
           (λ (e : k ≡ n). omega (arith, subst (λ x. getD (set firsts n i) x 0 ≡ i) (sym e) (put-same l)))
           (λ (ne : k ≡ n → ⊥). let p : k < n = omega (arith, ne) in omega (arith, put-other k p, h .earlier k p))
           (cases-eq k n);
-        covers = λ j m. ⊎-elim
+      covers = λ j m. ⊎-elim
           (λ (e : j ≡ i). (n, omega arith, ap (block-name b) (put-same l ∙ sym e)))
           (λ (ne : j ≡ i → ⊥).
-            let w = h .covers j (omega (arith, ne)) in
-            (w .0, omega (arith, w .1), ap (block-name b) (put-other (w .0) (w .1)) ∙ w .2))
-          (cases-eq j i) }
+          let w = h .covers j (omega (arith, ne)) in
+          (w .0, omega (arith, w .1), ap (block-name b) (put-other (w .0) (w .1)) ∙ w .2))
+          (cases-eq j i);
+    }
 
   module _ (old : new-among b (take n firsts) i ≡ false) where
     counted-old : count (i + 1) (new-name (block-name b)) ≡ n
@@ -109,11 +115,14 @@ module _ (b : List ℕ) (i n : ℕ) (firsts : List ℕ) (h : Firsts b i n firsts
         let r = each-breaks (other-than b (take n firsts) i) (length (take n firsts)) old in
         let m : r .0 < n = omega (arith, within, r .1) in
         let same : block-name b (getD firsts (r .0) 0) ≡ block-name b i =
-            subst (λ x. block-name b x ≡ block-name b i) (at-front (r .0) m) (same-from _ (block-name b i) (r .3)) in
+        subst (λ x. block-name b x ≡ block-name b i) (at-front (r .0) m) (same-from _ (block-name b i) (r .3)) in
         record {
-          few = h .few; long = h .long; counted = counted-old;
+          few = h .few;
+          long = h .long;
+          counted = counted-old;
           earlier = λ k l. omega (arith, h .earlier k l);
           covers = λ j l. ⊎-elim
-            (λ (e : j ≡ i). (r .0, m, same ∙ ap (block-name b) (sym e)))
-            (λ (ne : j ≡ i → ⊥). h .covers j (omega (arith, ne)))
-            (cases-eq j i) }
+              (λ (e : j ≡ i). (r .0, m, same ∙ ap (block-name b) (sym e)))
+              (λ (ne : j ≡ i → ⊥). h .covers j (omega (arith, ne)))
+              (cases-eq j i);
+        }

@@ -46,11 +46,17 @@ headed b h =
     let r₈ = one-kept _ _ (r₇ .1) in
     let sizes = and-parts (leb 48 (length b)) (leb (length b) 65536) (r₀ .0) in
     record {
-      least = leb-true 48 (length b) (sizes .0); most = leb-true (length b) 65536 (sizes .1);
+      least = leb-true 48 (length b) (sizes .0);
+      most = leb-true (length b) 65536 (sizes .1);
       few = leb-true (records b Templates) 64 (r₁ .0);
-      templates = eqb-true _ _ (r₂ .0); blocks = eqb-true _ _ (r₃ .0); codes = eqb-true _ _ (r₄ .0);
-      instructions = eqb-true _ _ (r₅ .0); constants = eqb-true _ _ (r₆ .0); text = eqb-true _ _ (r₇ .0);
-      end = eqb-true _ _ (r₈ .0) }
+      templates = eqb-true _ _ (r₂ .0);
+      blocks = eqb-true _ _ (r₃ .0);
+      codes = eqb-true _ _ (r₄ .0);
+      instructions = eqb-true _ _ (r₅ .0);
+      constants = eqb-true _ _ (r₆ .0);
+      text = eqb-true _ _ (r₇ .0);
+      end = eqb-true _ _ (r₈ .0);
+    }
 
 pub few-named : (b : List ℕ) (o : Owned) → all-kept b header-rules ≡ true → owned-in b o ≤ 5457
 few-named b Block h = let e = headed b h in omega arith

@@ -14,7 +14,8 @@ use Rattle.layout.specs.Bounded.{each, first-or, first-not}
 use Rattle.layout.proofs.EachBelow.{first-not-none, first-not-is, each-breaks, each-unless-first}
 use Rattle.rules.specs.Rules.{keeps, scope}
 use Rattle.rules.specs.declared.Rule.{Rule}
-use Rattle.causes.specs.Causes.{header-rules, reference-rules, field-rules, name-rules, body-rules, kept, all-kept, cause, number, breach, blamed, first-defect, defect, cause-of, isOwner, any-owner}
+use Rattle.causes.specs.Causes.{header-rules, reference-rules, field-rules, name-rules, body-rules, kept, all-kept, cause, number, breach, blamed, first-defect, defect, cause-of}
+use Rattle.causes.specs.Tally.{isOwner, any-owner}
 use Rattle.causes.specs.declared.defect.Defect.{Defect}
 
 pub owner-among : (rs : List Rule) (i : ℕ) (d : Rule) → i < length rs → isOwner (getD rs i d) ≡ true → any-owner rs ≡ true
@@ -74,17 +75,17 @@ broken-some b n [] numbered h = absurd (both-ways true h refl)
 broken-some b n (r ∷ rs) numbered h =
     ⊎-elim
     (λ (t : kept b r ≡ true).
-      ⊎-elim
-      (λ (f : kept b r ≡ false). absurd (both-ways (kept b r) f t))
-      (λ (f : all-kept b rs ≡ false).
-        let w = broken-some b n rs (numbered .1) f in
-        let e : breach b r ≡ None = kept-breach b r t in
-        (w .0, simp e (w .1), w .2))
-      (and-cases (kept b r) (all-kept b rs) h))
+    ⊎-elim
+    (λ (f : kept b r ≡ false). absurd (both-ways (kept b r) f t))
+    (λ (f : all-kept b rs ≡ false).
+    let w = broken-some b n rs (numbered .1) f in
+    let e : breach b r ≡ None = kept-breach b r t in
+    (w .0, simp e (w .1), w .2))
+    (and-cases (kept b r) (all-kept b rs) h))
     (λ (f : kept b r ≡ false).
-      let w = broken-breach b r f in
-      let e : breach b r ≡ Some (w .0) = w .1 in
-      (record { rule = r; «record» = w .0 }, simp e, numbered .0))
+    let w = broken-breach b r f in
+    let e : breach b r ≡ Some (w .0) = w .1 in
+    (record { rule = r; «record» = w .0 }, simp e, numbered .0))
     (cases-bool (kept b r))
 
 pub none-kept : (b : List ℕ) (n : ℕ) (rs : List Rule) → Numbered n rs → first-defect b rs ≡ None → all-kept b rs ≡ true
@@ -92,10 +93,10 @@ none-kept b n rs numbered e =
     ⊎-elim
     (λ (t : all-kept b rs ≡ true). t)
     (λ (f : all-kept b rs ≡ false).
-      let w = broken-some b n rs numbered f in
-      let p : first-defect b rs ≡ Some (w .0) = w .1 in
-      let z : _≡_ {A = ℕ} 0 1 = cc in
-      absurd (omega arith))
+    let w = broken-some b n rs numbered f in
+    let p : first-defect b rs ≡ Some (w .0) = w .1 in
+    let z : _≡_ {A = ℕ} 0 1 = cc in
+    absurd (omega arith))
     (cases-bool (all-kept b rs))
 
 header-numbered : Numbered 1 header-rules
@@ -119,12 +120,12 @@ cause-step : (b : List ℕ) (n rest : ℕ) (xs ys : List Rule) → Numbered n xs
 cause-step b n rest xs ys numbered h =
     ⊎-elim
     (λ (t : all-kept b xs ≡ true).
-      let none : first-defect b xs ≡ None = kept-none b xs t in
-      simp (first-defect-append b xs ys, none, t) h)
+    let none : first-defect b xs ≡ None = kept-none b xs t in
+    simp (first-defect-append b xs ys, none, t) h)
     (λ (f : all-kept b xs ≡ false).
-      let w = broken-some b n xs numbered f in
-      let some : first-defect b xs ≡ Some (w .0) = w .1 in
-      simp (first-defect-append b xs ys, some, f) (w .2))
+    let w = broken-some b n xs numbered f in
+    let some : first-defect b xs ≡ Some (w .0) = w .1 in
+    simp (first-defect-append b xs ys, some, f) (w .2))
     (cases-bool (all-kept b xs))
 
 pub lowest : (b : List ℕ) → cause-of (defect b) ≡ cause b
@@ -132,9 +133,9 @@ unfolding cause defect
 lowest b =
     cause-step b 1 _ header-rules body-rules header-numbered
     (cause-step b 2 _ reference-rules (field-rules ++ name-rules) reference-numbered
-      (cause-step b 3 _ field-rules name-rules field-numbered
-        (subst (λ xs. cause-of (first-defect b xs) ≡ cond (all-kept b name-rules) 0 4) (append-nil name-rules)
-          (cause-step b 4 0 name-rules [] name-numbered refl))))
+    (cause-step b 3 _ field-rules name-rules field-numbered
+    (subst (λ xs. cause-of (first-defect b xs) ≡ cond (all-kept b name-rules) 0 4) (append-nil name-rules)
+    (cause-step b 4 0 name-rules [] name-numbered refl))))
 
 -- the rules on the header are tried first, and then the others
 pub found-in-header : (b : List ℕ) (d : Defect) → first-defect b header-rules ≡ Some d → Some d ≡ defect b

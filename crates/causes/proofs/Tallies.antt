@@ -25,22 +25,23 @@ counts-none f = record { long = length-replicate {A = ℕ} 5458 0; counted = λ 
 pub counts-more : (n : ℕ) (f : ℕ → ℕ) (table : List ℕ) (place : ℕ) → Counts n f table → place ≡ f n → place < 5458
     → Counts (n + 1) f (set table place (getD table place 0 + 1))
 counts-more n f table place h e l = record {
-    long = length-set table place (getD table place 0 + 1) ∙ h .long;
-    counted = λ k m. ⊎-elim
+  long = length-set table place (getD table place 0 + 1) ∙ h .long;
+  counted = λ k m. ⊎-elim
       (λ (same : place ≡ k).
-        let t : eqb (f n) k ≡ true = eq-eqb (f n) k (sym e ∙ same) in
-        let w : place < length table = omega (arith, h .long) in
-        let s : getD (set table place (getD table place 0 + 1)) place 0 ≡ getD table place 0 + 1 =
-            getD-set-same table place (getD table place 0 + 1) 0 w in
-        let c : getD table place 0 ≡ count n (λ j. eqb (f j) place) = h .counted place l in
-        let g : getD (set table place (getD table place 0 + 1)) place 0 ≡ count (n + 1) (λ j. eqb (f j) place) =
-            s ∙ ap (λ x. x + 1) c ∙ sym (count-yes (λ j. eqb (f j) place) n (eq-eqb (f n) place (sym e))) in
-        subst (λ x. getD (set table place (getD table place 0 + 1)) x 0 ≡ count (n + 1) (λ j. eqb (f j) x)) same g)
+      let t : eqb (f n) k ≡ true = eq-eqb (f n) k (sym e ∙ same) in
+      let w : place < length table = omega (arith, h .long) in
+      let s : getD (set table place (getD table place 0 + 1)) place 0 ≡ getD table place 0 + 1 =
+      getD-set-same table place (getD table place 0 + 1) 0 w in
+      let c : getD table place 0 ≡ count n (λ j. eqb (f j) place) = h .counted place l in
+      let g : getD (set table place (getD table place 0 + 1)) place 0 ≡ count (n + 1) (λ j. eqb (f j) place) =
+      s ∙ ap (λ x. x + 1) c ∙ sym (count-yes (λ j. eqb (f j) place) n (eq-eqb (f n) place (sym e))) in
+      subst (λ x. getD (set table place (getD table place 0 + 1)) x 0 ≡ count (n + 1) (λ j. eqb (f j) x)) same g)
       (λ (other : place ≡ k → ⊥).
-        let ne : k ≢ place = λ q. other (sym q) in
-        getD-set-other table place k (getD table place 0 + 1) 0 ne ∙ h .counted k m
-        ∙ sym (count-no (λ j. eqb (f j) k) n (ne-eqb (f n) k (λ q. other (e ∙ q)))))
-      (cases-eq place k) }
+      let ne : k ≢ place = λ q. other (sym q) in
+      getD-set-other table place k (getD table place 0 + 1) 0 ne ∙ h .counted k m
+      ∙ sym (count-no (λ j. eqb (f j) k) n (ne-eqb (f n) k (λ q. other (e ∙ q)))))
+      (cases-eq place k);
+}
 
 pub counts-le : (n : ℕ) (f : ℕ → ℕ) (table : List ℕ) (k : ℕ) → Counts n f table → k < 5458 → getD table k 0 ≤ n
 counts-le n f table k h l = omega (arith, h .counted k l, count-le (λ j. eqb (f j) k) n)
@@ -77,10 +78,12 @@ pub record Scanned (b : List ℕ) (o : Owned) (i opened : ℕ) : Type 0 where
   pub level : opened + count (namers b o) (λ j. ltb (finishes b o j) i) ≡ count (namers b o) (λ j. ltb (begins b o j) i)
 
 pub scan-none : (b : List ℕ) (o : Owned) → Scanned b o 0 0
-scan-none b o = record { level =
-    let x : count (namers b o) (λ j. ltb (finishes b o j) 0) ≡ 0 = count-none (λ j. ltb (finishes b o j) 0) (namers b o) (λ j l. le-ltb _ 0 (omega arith)) in
-    let y : count (namers b o) (λ j. ltb (begins b o j) 0) ≡ 0 = count-none (λ j. ltb (begins b o j) 0) (namers b o) (λ j l. le-ltb _ 0 (omega arith)) in
-    omega arith }
+scan-none b o = record {
+  level =
+      let x : count (namers b o) (λ j. ltb (finishes b o j) 0) ≡ 0 = count-none (λ j. ltb (finishes b o j) 0) (namers b o) (λ j l. le-ltb _ 0 (omega arith)) in
+      let y : count (namers b o) (λ j. ltb (begins b o j) 0) ≡ 0 = count-none (λ j. ltb (begins b o j) 0) (namers b o) (λ j l. le-ltb _ 0 (omega arith)) in
+      omega arith;
+}
 
 module _ (b : List ℕ) (o : Owned) (i opened : ℕ) (starts ends : List ℕ) (l : i < 5457) (h : Scanned b o i opened)
     (s : Counts (namers b o) (begins b o) starts) (e : Counts (namers b o) (finishes b o) ends) where
@@ -131,4 +134,5 @@ turn b o given i n opened starts ends same head e l h s f =
       fits = omega (arith, opened-few b o i opened starts ends few h s′ f′, few-namers b o head);
       covers = ends-fit b o i opened starts ends few h s′ f′;
       is = scan-is b o i opened starts ends few h s′ f′;
-      next = scan-more b o i opened starts ends few h s′ f′ }
+      next = scan-more b o i opened starts ends few h s′ f′;
+    }

@@ -1,6 +1,6 @@
 -- The causes 1 to 4: a cause holds where some record breaks a rule of its number. The lowest one counts.
 use Prim.Native.Nat.{ℕ, zero, suc}
-use mathlib.Core.Bool.{Bool, true, false, cond, _&&_, _||_}
+use mathlib.Core.Bool.{Bool, true, false, cond, _&&_}
 use mathlib.Core.List.{List, [], _∷_, _++_}
 use Rattle.std.specs.declared.option.Option.{Option}
 use Rattle.std.specs.declared.option.Option.the-variants.{Some, None}
@@ -110,13 +110,3 @@ defect b = first-defect b rules
 abbrev pub cause-of : Option Defect → ℕ
 cause-of None = 0
 cause-of (Some d) = number (d .rule)
-
--- rules that count owners: they are tried only once the header is right
-abbrev pub isOwner : Rule → Bool
-isOwner (Record r) = false
-isOwner (Owner o) = true
-isOwner BlockNameLimit = false
-
-abbrev pub any-owner : List Rule → Bool
-any-owner [] = false
-any-owner (r ∷ rs) = isOwner r || any-owner rs

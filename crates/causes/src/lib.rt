@@ -2,7 +2,8 @@
 // for the first one that is broken.
 ghost use mathlib.Core.Path.{_≡_};
 ghost use mathlib.Core.Bool.{true};
-ghost use Rattle.causes.specs.Causes.{number as numberOf, number-record, breach, first-defect, defect, cause, cause-of, header-rules, all-kept, isOwner, any-owner};
+ghost use Rattle.causes.specs.Causes.{number as numberOf, number-record, breach, first-defect, defect, cause, cause-of, header-rules, all-kept};
+ghost use Rattle.causes.specs.Tally.{isOwner, any-owner};
 
 pub mod defect;
 mod names;
@@ -76,7 +77,10 @@ fn first_defect_in(layout: Layout<'_>, rules: &[Rule]) -> Option<Defect>
 {
     for rule in rules {
         if let Some(record) = first_breach(layout, *rule) {
-            return Some(Defect { rule: *rule, record });
+            return Some(Defect {
+                rule: *rule,
+                record,
+            });
         }
     }
     None
@@ -111,10 +115,14 @@ fn cause_of_record(rule: RecordRule) -> u8
     ensures { λ r. ⌜ r ≡ number-record rule ⌝ }
 {
     match rule {
-        RecordRule::Size | RecordRule::TemplateLimit | RecordRule::SectionStart(_) | RecordRule::BundleEnd => 1,
+        RecordRule::Size
+        | RecordRule::TemplateLimit
+        | RecordRule::SectionStart(_)
+        | RecordRule::BundleEnd => 1,
         RecordRule::TemplateName | RecordRule::TemplateMain | RecordRule::TemplateBlocks => 2,
         RecordRule::BlockName | RecordRule::BlockCode | RecordRule::CodeInstructions => 2,
-        RecordRule::InstructionText | RecordRule::InstructionConstant | RecordRule::ConstantText => 2,
+        RecordRule::InstructionText | RecordRule::InstructionConstant | RecordRule::ConstantText =>
+            2,
         RecordRule::JumpTargets => 2,
         RecordRule::CodeLength | RecordRule::CodeFlag | RecordRule::MainFlag => 3,
         RecordRule::InstructionKind | RecordRule::InstructionFields => 3,

@@ -4,7 +4,6 @@ ghost use Rattle.rules.specs.Rules.{block-name};
 ghost use Rattle.causes.specs.Tally.{new-among};
 ghost use Rattle.causes.specs.Causes.{breach};
 ghost use Rattle.rules.specs.declared.Rule.the-variants.{BlockNameLimit};
-
 use layout::Layout;
 use layout::section::Section;
 use rules::same_bytes;

@@ -10,13 +10,13 @@ ghost use Rattle.rules.specs.Rules.{namers as namersOf, run-start, run-end, own
 ghost use Rattle.causes.specs.Causes.{breach, header-rules, all-kept};
 ghost use Rattle.causes.specs.Tally.{Counts, begins, finishes};
 ghost use Rattle.rules.specs.declared.Rule.the-variants.{Owner};
-
 use layout::Layout;
 use layout::section::Section;
 use rules::Owned;
 
 // A bundle has at most 65,536 bytes, so that it holds at most this many records of the smallest kind.
 const MAX_NAMED: usize = 5457;
+
 const PLACES: usize = 5458;
 
 // How many runs begin at each record, and how many end there. What lies past the last record counts at MAX_NAMED.
@@ -60,13 +60,20 @@ fn named_code(layout: Layout<'_>, namer: u32) -> u32
     ensures { λ r. ⌜ r ≡ code-named-by (now (layout .entry .bytes)) namer ⌝ }
 {
     let templates = layout.count(Section::Templates);
-    if namer < templates { layout.template(namer).main } else { layout.block(namer - templates).code }
+    if namer < templates {
+        layout.template(namer).main
+    } else {
+        layout.block(namer - templates).code
+    }
 }
 
 fn run_of(first: u32, count: u32) -> Run
     ensures { λ r. ⌜ r .start ≡ first ⌝ ∗ ⌜ r .end ≡ first + count ⌝ }
 {
-    Run { start: first as usize, end: first as usize + count as usize }
+    Run {
+        start: first as usize,
+        end: first as usize + count as usize,
+    }
 }
 
 // The run that one record names.
@@ -102,7 +109,11 @@ fn tally_runs(layout: Layout<'_>, owned: Owned) -> Tally
         starts[start] += 1;
         ends[end] += 1;
     }
-    Tally { owned, starts, ends }
+    Tally {
+        owned,
+        starts,
+        ends,
+    }
 }
 
 // The first record that is named more or less than once.

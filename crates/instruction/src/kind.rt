@@ -1,4 +1,3 @@
-
 // Which fields of its record an instruction takes.
 #[derive(Clone, Copy)]
 pub enum Fields {

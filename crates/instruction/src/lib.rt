@@ -33,7 +33,8 @@ pub fn fields_of_kind(kind: u8) -> Fields
         38 | 42 | 43 | 44 | 45 => Fields::Target,
         48 => Fields::CaptureMode,
         50 => Fields::TextAndCount,
-        5 | 15 | 16 | 17 | 18 | 19 | 20 | 21 | 22 | 23 | 24 | 25 | 26 | 27 | 28 | 29 | 30 | 31 => Fields::None,
+        5 | 15 | 16 | 17 | 18 | 19 | 20 | 21 | 22 | 23 | 24 | 25 | 26 | 27 | 28 | 29 | 30 | 31 =>
+            Fields::None,
         35 | 37 | 39 | 40 | 41 | 49 | 53 | 54 | 55 | 56 | 57 | 59 => Fields::None,
         _ => Fields::LeftOut,
     }
@@ -43,7 +44,11 @@ pub fn fields_of_kind(kind: u8) -> Fields
 fn signed_of(n: u32) -> i32
     ensures { λ r. ⌜ r ≡ signed n ⌝ }
 {
-    if n < 0x8000_0000 { n as i32 } else { -1 - (u32::MAX - n) as i32 }
+    if n < 0x8000_0000 {
+        n as i32
+    } else {
+        -1 - (u32::MAX - n) as i32
+    }
 }
 
 impl Fields {

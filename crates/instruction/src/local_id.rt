@@ -21,6 +21,10 @@ impl LocalId {
     pub fn slot(self) -> Option<usize>
         ensures { λ r. ⌜ r ≡ cond (ltb (self .0) 50) (Some (self .0)) None ⌝ }
     {
-        if self.0 < MAX_LOCALS { Some(self.0 as usize) } else { None }
+        if self.0 < MAX_LOCALS {
+            Some(self.0 as usize)
+        } else {
+            None
+        }
     }
 }

@@ -19,16 +19,16 @@ pub clipped : {X : Type 0} (xs : List X) (offset len from to : ℕ)
 clipped {X} xs offset len from to f t =
     ⊎-elim
     (λ (h : offset < length xs).
-      let e : from ≡ offset = omega arith in
-      ⊎-elim
-      (λ (k : offset + len < length xs). let g : to - offset ≡ len = omega arith in simp (g, e))
-      (λ (k : length xs ≤ offset + len).
-        let g : to - offset ≡ length xs - offset = omega arith in
-        let l : length (drop offset xs) ≡ length xs - offset = length-drop offset xs in
-        simp (g, e) (take-more-than-all (length xs - offset) len (drop offset xs) (omega arith) (omega arith)))
-      (cases-lt (offset + len) (length xs)))
+    let e : from ≡ offset = omega arith in
+    ⊎-elim
+    (λ (k : offset + len < length xs). let g : to - offset ≡ len = omega arith in simp (g, e))
+    (λ (k : length xs ≤ offset + len).
+    let g : to - offset ≡ length xs - offset = omega arith in
+    let l : length (drop offset xs) ≡ length xs - offset = length-drop offset xs in
+    simp (g, e) (take-more-than-all (length xs - offset) len (drop offset xs) (omega arith) (omega arith)))
+    (cases-lt (offset + len) (length xs)))
     (λ (h : length xs ≤ offset).
-      let a : drop from xs ≡ [] = drop-all from xs (omega arith) in
-      let z : drop offset xs ≡ [] = drop-all offset xs h in
-      simp (a, z) (take-more-than-all {X = X} (to - from) len [] (omega arith) (omega arith)))
+    let a : drop from xs ≡ [] = drop-all from xs (omega arith) in
+    let z : drop offset xs ≡ [] = drop-all offset xs h in
+    simp (a, z) (take-more-than-all {X = X} (to - from) len [] (omega arith) (omega arith)))
     (cases-lt offset (length xs))

@@ -59,11 +59,11 @@ count-zero-none p (suc n) h i l =
     ⊎-elim
     (λ (t : p n ≡ true). let e : bit (p n) ≡ 1 = cond-true (p n) 1 0 t in absurd (omega arith))
     (λ (f : p n ≡ false).
-      let e : bit (p n) ≡ 0 = cond-false (p n) 1 0 f in
-      ⊎-elim
-      (λ (same : i ≡ n). subst (λ k. p k ≡ false) (sym same) f)
-      (λ (ne : i ≡ n → ⊥). count-zero-none p n (omega arith) i (omega (arith, ne)))
-      (cases-eq i n))
+    let e : bit (p n) ≡ 0 = cond-false (p n) 1 0 f in
+    ⊎-elim
+    (λ (same : i ≡ n). subst (λ k. p k ≡ false) (sym same) f)
+    (λ (ne : i ≡ n → ⊥). count-zero-none p n (omega arith) i (omega (arith, ne)))
+    (cases-eq i n))
     (cases-bool (p n))
 
 pub only-one : (p : ℕ → Bool) (n : ℕ) → count n p ≡ 1 → OnlyOne p n
@@ -71,23 +71,29 @@ only-one p zero h = absurd (omega arith)
 only-one p (suc n) h =
     ⊎-elim
     (λ (t : p n ≡ true).
-      let e : bit (p n) ≡ 1 = cond-true (p n) 1 0 t in
-      let none : count n p ≡ 0 = omega arith in
-      record {
-        one = n; below = omega arith; passes = t;
-        only = λ j l k. ⊎-elim
+    let e : bit (p n) ≡ 1 = cond-true (p n) 1 0 t in
+    let none : count n p ≡ 0 = omega arith in
+    record {
+      one = n;
+      below = omega arith;
+      passes = t;
+      only = λ j l k. ⊎-elim
           (λ (same : j ≡ n). same)
           (λ (ne : j ≡ n → ⊥). absurd (both-ways (p j) (count-zero-none p n none j (omega (arith, ne))) k))
-          (cases-eq j n) })
+          (cases-eq j n);
+    })
     (λ (f : p n ≡ false).
-      let e : bit (p n) ≡ 0 = cond-false (p n) 1 0 f in
-      let r = only-one p n (omega arith) in
-      record {
-        one = r .one; below = omega (arith, r .below); passes = r .passes;
-        only = λ j l k. ⊎-elim
+    let e : bit (p n) ≡ 0 = cond-false (p n) 1 0 f in
+    let r = only-one p n (omega arith) in
+    record {
+      one = r .one;
+      below = omega (arith, r .below);
+      passes = r .passes;
+      only = λ j l k. ⊎-elim
           (λ (same : j ≡ n). absurd (both-ways (p j) (subst (λ x. p x ≡ false) (sym same) f) k))
           (λ (ne : j ≡ n → ⊥). r .only j (omega (arith, ne)) k)
-          (cases-eq j n) })
+          (cases-eq j n);
+    })
     (cases-bool (p n))
 
 -- Runs, each from f j to just before e j: those that hold i, and those that ended by i, are those that began by i.
@@ -106,5 +112,5 @@ count-between f e i (suc n) le =
     let h = count-between f e i n le in
     let l : f n ≤ e n = le n in
     let one : bit (leb (f n) i && ltb i (e n)) + bit (ltb (e n) (i + 1)) ≡ bit (ltb (f n) (i + 1)) =
-        grind (arith, tells) in
+    grind (arith, tells) in
     omega arith

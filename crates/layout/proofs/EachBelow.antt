@@ -60,10 +60,10 @@ module _ (p : ℕ → Bool) where
   each-breaks (suc n) h =
       ⊎-elim
       (λ (t : each n p ≡ true).
-        ⊎-elim
-        (λ (f : p n ≡ false). (n, omega arith, t, f))
-        (λ (f : each n p ≡ false). absurd (both-ways (each n p) f t))
-        (and-cases (p n) (each n p) h))
+      ⊎-elim
+      (λ (f : p n ≡ false). (n, omega arith, t, f))
+      (λ (f : each n p ≡ false). absurd (both-ways (each n p) f t))
+      (and-cases (p n) (each n p) h))
       (λ (f : each n p ≡ false). let r = each-breaks n f in (r .0, omega (arith, r .1), r .2, r .3))
       (cases-bool (each n p))
 
@@ -72,10 +72,10 @@ module _ (p : ℕ → Bool) where
       ⊎-elim
       (λ (t : each n p ≡ true). t)
       (λ (f : each n p ≡ false).
-        let r = each-breaks n f in
-        let e : first-not n p ≡ Some (r .0) = first-not-is n (r .0) (r .1) (r .2) (r .3) in
-        let z : _≡_ {A = ℕ} 0 1 = cc in
-        absurd (omega arith))
+      let r = each-breaks n f in
+      let e : first-not n p ≡ Some (r .0) = first-not-is n (r .0) (r .1) (r .2) (r .3) in
+      let z : _≡_ {A = ℕ} 0 1 = cc in
+      absurd (omega arith))
       (cases-bool (each n p))
 
   pub each-fewer : (n i : ℕ) → n ≤ i → each i p ≡ true → each n p ≡ true
@@ -94,9 +94,9 @@ module _ (p : ℕ → Bool) where
       ⊎-elim
       (λ (t : each n p ≡ true). let e : first-not n p ≡ None = first-not-none n t in simp (e, t))
       (λ (f : each n p ≡ false).
-        let r = each-breaks n f in
-        let e : first-not n p ≡ Some (r .0) = first-not-is n (r .0) (r .1) (r .2) (r .3) in
-        simp (e, f))
+      let r = each-breaks n f in
+      let e : first-not n p ≡ Some (r .0) = first-not-is n (r .0) (r .1) (r .2) (r .3) in
+      simp (e, f))
       (cases-bool (each n p))
 
   pub none-is-each : (n : ℕ) (o : Option ℕ) (t : Bool) → o ≡ first-not n p → isSome o ≡ not t → t ≡ each n p

@@ -1,3 +1,4 @@
 pub mod Clipped
+pub mod Listed
 pub mod EachBelow
 pub mod CountBelow

@@ -41,8 +41,14 @@ abbrev pub extent : List ℕ → Section → Extent
 extent b s = record { count = records b s; offset = start b s }
 
 abbrev pub header : List ℕ → Header
-header b = record { templates = extent b Templates; blocks = extent b Blocks; codes = extent b Codes;
-    instructions = extent b Instructions; constants = extent b Constants; text = extent b Text }
+header b = record {
+  templates = extent b Templates;
+  blocks = extent b Blocks;
+  codes = extent b Codes;
+  instructions = extent b Instructions;
+  constants = extent b Constants;
+  text = extent b Text;
+}
 
 -- how many bytes a record has
 abbrev pub size : Section → ℕ
@@ -60,8 +66,12 @@ at b s i = start b s + size s * i
 -- the fields of the record with the number i, in their order
 abbrev pub template : List ℕ → ℕ → TemplateRecord
 template b i = let p : ℕ = at b Templates i in record {
-    «name_offset» = u32 b p; «name_length» = u32 b (p + 4); main = u32 b (p + 8);
-    «first_block» = u32 b (p + 12); «block_count» = u32 b (p + 16) }
+  «name_offset» = u32 b p;
+  «name_length» = u32 b (p + 4);
+  main = u32 b (p + 8);
+  «first_block» = u32 b (p + 12);
+  «block_count» = u32 b (p + 16);
+}
 
 abbrev pub block-at : List ℕ → ℕ → BlockRecord
 block-at b p = record { «name_offset» = u32 b p; «name_length» = u32 b (p + 4); code = u32 b (p + 8) }
@@ -71,12 +81,21 @@ block b i = block-at b (at b Blocks i)
 
 abbrev pub code : List ℕ → ℕ → CodeRecord
 code b i = let p : ℕ = at b Codes i in record {
-    «first_instruction» = u32 b p; «instruction_count» = u32 b (p + 4); flag = u32 b (p + 8) }
+  «first_instruction» = u32 b p;
+  «instruction_count» = u32 b (p + 4);
+  flag = u32 b (p + 8);
+}
 
 abbrev pub instruction-at : List ℕ → ℕ → InstructionRecord
 instruction-at b p = record {
-    kind = byte b p; small = byte b (p + 1); argc = u16 b (p + 2); a = u32 b (p + 4); b = u32 b (p + 8);
-    line = u16 b (p + 12); zero = u16 b (p + 14) }
+  kind = byte b p;
+  small = byte b (p + 1);
+  argc = u16 b (p + 2);
+  a = u32 b (p + 4);
+  b = u32 b (p + 8);
+  line = u16 b (p + 12);
+  zero = u16 b (p + 14);
+}
 
 abbrev pub instruction : List ℕ → ℕ → InstructionRecord
 instruction b i = instruction-at b (at b Instructions i)

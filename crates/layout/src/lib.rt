@@ -102,7 +102,10 @@ impl<'b> Layout<'b> {
     fn extent(self, section: Section) -> Extent
         ensures { λ r. ⌜ r ≡ extentOf (now (self .entry .bytes)) section ⌝ }
     {
-        Extent { count: self.count(section), offset: self.offset(section) }
+        Extent {
+            count: self.count(section),
+            offset: self.offset(section),
+        }
     }
 
     pub fn header(self) -> Header
@@ -129,7 +132,8 @@ impl<'b> Layout<'b> {
     fn record_from(self, section: Section, first: u32, place: u32) -> usize
         ensures { λ r. ⌜ r ≡ at (now (self .entry .bytes)) section (first + place) ⌝ ∗ ⌜ r < 2 ^ 40 ⌝ }
     {
-        self.offset(section) as usize + section.record_size() as usize * (first as usize + place as usize)
+        self.offset(section) as usize
+            + section.record_size() as usize * (first as usize + place as usize)
     }
 
     pub fn template(self, number: u32) -> TemplateRecord
@@ -212,7 +216,11 @@ impl<'b> Layout<'b> {
         ensures { λ r. ⌜ r ≡ constantOf (now (self .entry .bytes)) number ⌝ }
     {
         let at = self.record_at(Section::Constants, number);
-        ConstantRecord { kind: u32_at(self.bytes, at), a: u32_at(self.bytes, at + 4), b: u32_at(self.bytes, at + 8) }
+        ConstantRecord {
+            kind: u32_at(self.bytes, at),
+            a: u32_at(self.bytes, at + 4),
+            b: u32_at(self.bytes, at + 8),
+        }
     }
 
     // The part of the text section with this offset and length, as far as the bytes reach.

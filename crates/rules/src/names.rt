@@ -7,7 +7,6 @@ ghost use Rattle.std.specs.shelf.Text.{sameBytes};
 ghost use Rattle.layout.specs.Bounded.{each, count};
 ghost use Rattle.layout.specs.Layout.{records};
 ghost use Rattle.rules.specs.Rules.{template-name, block-name, new-name, keeps-record, keeps as keepsRule, scope as scopeOf};
-
 use crate::RecordRule;
 use layout::Layout;
 

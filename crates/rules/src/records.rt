@@ -6,20 +6,24 @@ ghost use lib.Dec.{leb};
 ghost use Rattle.layout.specs.Bounded.{each, first-not};
 ghost use Rattle.layout.specs.Layout.{code};
 ghost use Rattle.rules.specs.Rules.{inside, finish as finishOf, due as dueOf, jumps-inside, loads as loadsAt, keeps-record, scope-record};
-
+use crate::RecordRule;
 use crate::names::block_names_differ;
 use crate::names::is_new_template;
-use crate::RecordRule;
 use instruction::constant_allowed;
 use instruction::fields_of_kind;
 use layout::Layout;
 use layout::section::Section;
 
 pub const MIN_SIZE: usize = 48;
+
 pub const MAX_SIZE: usize = 65536;
+
 pub const MAX_TEMPLATES: u32 = 64;
+
 pub const MAX_INSTRUCTIONS: u32 = 1024;
+
 const LOAD_BLOCKS: u8 = 59;
+
 const TEXT_CONSTANT: u32 = 4;
 
 fn size_allowed(size: usize) -> bool
@@ -132,7 +136,12 @@ fn keeps(layout: Layout<'_>, rule: RecordRule, number: u32) -> bool
             let raw = layout.template(number);
             is_inside(layout, Section::Text, raw.name_offset, raw.name_length)
         }
-        RecordRule::TemplateMain => is_inside(layout, Section::Codes, layout.template(number).main, 1),
+        RecordRule::TemplateMain => is_inside(
+            layout,
+            Section::Codes,
+            layout.template(number).main,
+            1,
+        ),
         RecordRule::TemplateBlocks => {
             let raw = layout.template(number);
             is_inside(layout, Section::Blocks, raw.first_block, raw.block_count)
@@ -144,7 +153,12 @@ fn keeps(layout: Layout<'_>, rule: RecordRule, number: u32) -> bool
         RecordRule::BlockCode => is_inside(layout, Section::Codes, layout.block(number).code, 1),
         RecordRule::CodeInstructions => {
             let raw = layout.code(number);
-            is_inside(layout, Section::Instructions, raw.first_instruction, raw.instruction_count)
+            is_inside(
+                layout,
+                Section::Instructions,
+                raw.first_instruction,
+                raw.instruction_count,
+            )
         }
         RecordRule::InstructionText => text_of_instruction_inside(layout, number),
         RecordRule::InstructionConstant => constant_of_instruction_inside(layout, number),
@@ -171,15 +185,28 @@ fn scope(layout: Layout<'_>, rule: RecordRule) -> u32
     ensures { λ r. ⌜ r ≡ scope-record (now (layout .entry .bytes)) rule ⌝ }
 {
     match rule {
-        RecordRule::Size | RecordRule::TemplateLimit | RecordRule::SectionStart(_) | RecordRule::BundleEnd => 1,
-        RecordRule::TemplateName | RecordRule::TemplateMain | RecordRule::TemplateBlocks => layout.count(Section::Templates),
-        RecordRule::MainFlag | RecordRule::TemplateNames | RecordRule::BlockNames => layout.count(Section::Templates),
-        RecordRule::BlockName | RecordRule::BlockCode | RecordRule::LoadOutsideMain => layout.count(Section::Blocks),
+        RecordRule::Size
+        | RecordRule::TemplateLimit
+        | RecordRule::SectionStart(_)
+        | RecordRule::BundleEnd => 1,
+        RecordRule::TemplateName | RecordRule::TemplateMain | RecordRule::TemplateBlocks =>
+            layout.count(Section::Templates),
+        RecordRule::MainFlag | RecordRule::TemplateNames | RecordRule::BlockNames => layout.count(
+            Section::Templates,
+        ),
+        RecordRule::BlockName | RecordRule::BlockCode | RecordRule::LoadOutsideMain => layout.count(
+            Section::Blocks,
+        ),
         RecordRule::CodeInstructions | RecordRule::JumpTargets => layout.count(Section::Codes),
         RecordRule::CodeLength | RecordRule::CodeFlag => layout.count(Section::Codes),
-        RecordRule::InstructionText | RecordRule::InstructionConstant => layout.count(Section::Instructions),
-        RecordRule::InstructionKind | RecordRule::InstructionFields => layout.count(Section::Instructions),
-        RecordRule::ConstantText | RecordRule::ConstantKind | RecordRule::ConstantFields => layout.count(Section::Constants),
+        RecordRule::InstructionText | RecordRule::InstructionConstant => layout.count(
+            Section::Instructions,
+        ),
+        RecordRule::InstructionKind | RecordRule::InstructionFields => layout.count(
+            Section::Instructions,
+        ),
+        RecordRule::ConstantText | RecordRule::ConstantKind | RecordRule::ConstantFields =>
+            layout.count(Section::Constants),
     }
 }
 

@@ -15,6 +15,6 @@ pub returns-in-None : need.returns-in-None
 returns-in-None c =
     let h = subst (λ (b : List ℕ). c .first-defect-in .result ≡ first-defect b header-rules) (c .new-layout .ensures) (c .first-defect-in .ensures) in
     let k = subst (λ (b : List ℕ). c .first-defect-in-in-None .result ≡ first-defect b body-rules) (c .new-layout .ensures)
-        (c .first-defect-in-in-None .ensures) in
+    (c .first-defect-in-in-None .ensures) in
     let e = found-later (c .args .bytes .now) (c .first-defect-in-in-None .result) (sym h ∙ c .in-None .is) k in
     record { value = e; lowest = ap cause-of e ∙ lowest (c .args .bytes .now) }

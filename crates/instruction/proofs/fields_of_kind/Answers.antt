@@ -21,9 +21,9 @@ returns-in-35·2 c =
     ⊎-elim
     (λ (l : c .args .kind < 36). in-run None 35 1 (c .args .kind) (refl, tt) (omega arith) (omega arith))
     (λ (h : 36 ≤ c .args .kind). ⊎-elim
-      (λ (l : c .args .kind < 38). in-run None 37 1 (c .args .kind) (refl, tt) (omega arith) (omega arith))
-      (λ (g : 38 ≤ c .args .kind). in-run None 39 3 (c .args .kind) (refl, (refl, (refl, tt))) (omega arith) (omega arith))
-      (cases-lt (c .args .kind) 38))
+    (λ (l : c .args .kind < 38). in-run None 37 1 (c .args .kind) (refl, tt) (omega arith) (omega arith))
+    (λ (g : 38 ≤ c .args .kind). in-run None 39 3 (c .args .kind) (refl, (refl, (refl, tt))) (omega arith) (omega arith))
+    (cases-lt (c .args .kind) 38))
     (cases-lt (c .args .kind) 36)
 
 pub returns-in-35·3 : need.returns-in-35·3
@@ -33,4 +33,3 @@ returns-in-35·3 c =
 pub returns-in-5·2 : need.returns-in-5·2
 returns-in-5·2 c =
     in-run None 15 17 (c .args .kind) (refl, (refl, (refl, (refl, (refl, (refl, (refl, (refl, (refl, (refl, (refl, (refl, (refl, (refl, (refl, (refl, (refl, tt))))))))))))))))) (omega arith) (omega arith)
-

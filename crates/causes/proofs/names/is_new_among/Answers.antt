@@ -15,13 +15,13 @@ pub returns-then-same-bytes : need.returns-then-same-bytes
 returns-then-same-bytes c =
     sym
     (each-not (other-than (c .args .layout .bytes .now) (c .args .blocks .now) (c .args .number)) _ (c .loop-block .block-index)
-      (c .loop-block-test .taken)
-      (told (c .same-bytes .result) true (c .name-of-block .result .now) (c .name-of-block-name .result .now) _ _
-        (c .same-bytes .ensures) (c .name-of-block .ensures) (c .name-of-block-name .ensures) (c .if-same-bytes .taken)))
+    (c .loop-block-test .taken)
+    (told (c .same-bytes .result) true (c .name-of-block .result .now) (c .name-of-block-name .result .now) _ _
+    (c .same-bytes .ensures) (c .name-of-block .ensures) (c .name-of-block-name .ensures) (c .if-same-bytes .taken)))
 
 pub loop-block-again : need.loop-block-again
 loop-block-again c =
     each-more (other-than (c .args .layout .bytes .now) (c .args .blocks .now) (c .args .number)) (c .loop-block .block-index)
     (c .loop-block .inv)
     (told (c .same-bytes .result) false (c .name-of-block .result .now) (c .name-of-block-name .result .now) _ _
-      (c .same-bytes .ensures) (c .name-of-block .ensures) (c .name-of-block-name .ensures) (c .if-same-bytes .left))
+    (c .same-bytes .ensures) (c .name-of-block .ensures) (c .name-of-block-name .ensures) (c .if-same-bytes .left))

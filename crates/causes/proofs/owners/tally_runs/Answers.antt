@@ -13,20 +13,27 @@ loop-namer-holds c =
 
 pub add-starts : need.add-starts
 add-starts c =
-    omega (arith, few-namers (c .args .layout .bytes .now) (c .args .owned) (c .pre),
-      counts-le (c .loop-namer .namer) _ (c .loop-namer .starts) (c .min-start .result) (c .loop-namer .inv .0) (omega arith))
+    omega (
+      arith,
+      few-namers (c .args .layout .bytes .now) (c .args .owned) (c .pre),
+      counts-le (c .loop-namer .namer) _ (c .loop-namer .starts) (c .min-start .result) (c .loop-namer .inv .0) (omega arith),
+    )
 
 pub add-ends : need.add-ends
 add-ends c =
-    omega (arith, few-namers (c .args .layout .bytes .now) (c .args .owned) (c .pre),
-      counts-le (c .loop-namer .namer) _ (c .loop-namer .ends) (c .min-end .result) (c .loop-namer .inv .1) (omega arith))
+    omega (
+      arith,
+      few-namers (c .args .layout .bytes .now) (c .args .owned) (c .pre),
+      counts-le (c .loop-namer .namer) _ (c .loop-namer .ends) (c .min-end .result) (c .loop-namer .inv .1) (omega arith),
+    )
 
 pub loop-namer-again : need.loop-namer-again
-loop-namer-again c =
-    (counts-more (c .loop-namer .namer) (begins (c .args .layout .bytes .now) (c .args .owned)) (c .loop-namer .starts)
+loop-namer-again c = (
+  counts-more (c .loop-namer .namer) (begins (c .args .layout .bytes .now) (c .args .owned)) (c .loop-namer .starts)
       (c .min-start .result) (c .loop-namer .inv .0) (omega arith) (omega arith),
-      counts-more (c .loop-namer .namer) (finishes (c .args .layout .bytes .now) (c .args .owned)) (c .loop-namer .ends)
-      (c .min-end .result) (c .loop-namer .inv .1) (omega arith) (omega arith))
+  counts-more (c .loop-namer .namer) (finishes (c .args .layout .bytes .now) (c .args .owned)) (c .loop-namer .ends)
+      (c .min-end .result) (c .loop-namer .inv .1) (omega arith) (omega arith),
+)
 
 pub returns : need.returns
 returns c =
@@ -34,4 +41,5 @@ returns c =
     record {
       owned = refl;
       starts = subst (λ n. Counts n (begins (c .args .layout .bytes .now) (c .args .owned)) (c .loop-namer .starts)) all (c .loop-namer .inv .0);
-      ends = subst (λ n. Counts n (finishes (c .args .layout .bytes .now) (c .args .owned)) (c .loop-namer .ends)) all (c .loop-namer .inv .1) }
+      ends = subst (λ n. Counts n (finishes (c .args .layout .bytes .now) (c .args .owned)) (c .loop-namer .ends)) all (c .loop-namer .inv .1);
+    }

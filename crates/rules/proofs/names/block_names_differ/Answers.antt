@@ -16,18 +16,18 @@ pub returns-then-not-is-new-block : need.returns-then-not-is-new-block
 returns-then-not-is-new-block c =
     subst
     (λ (r : TemplateRecord).
-      false ≡ each (r .«block_count») (new-name (λ k. block-name (c .args .layout .bytes .now) (r .«first_block» + k))))
+    false ≡ each (r .«block_count») (new-name (λ k. block-name (c .args .layout .bytes .now) (r .«first_block» + k))))
     (c .template-raw .ensures)
     (sym
-      (each-not (new-name (λ k. block-name (c .args .layout .bytes .now) (c .template-raw .result .«first_block» + k))) _
-        (c .loop-place .place) (c .loop-place-test .taken) (sym (c .is-new-block .ensures) ∙ c .if-not-is-new-block .taken)))
+    (each-not (new-name (λ k. block-name (c .args .layout .bytes .now) (c .template-raw .result .«first_block» + k))) _
+    (c .loop-place .place) (c .loop-place-test .taken) (sym (c .is-new-block .ensures) ∙ c .if-not-is-new-block .taken)))
 
 pub returns : need.returns
 returns c =
     subst
     (λ (r : TemplateRecord).
-      true ≡ each (r .«block_count») (new-name (λ k. block-name (c .args .layout .bytes .now) (r .«first_block» + k))))
+    true ≡ each (r .«block_count») (new-name (λ k. block-name (c .args .layout .bytes .now) (r .«first_block» + k))))
     (c .template-raw .ensures)
     (sym
-      (each-fewer (new-name (λ k. block-name (c .args .layout .bytes .now) (c .template-raw .result .«first_block» + k))) _
-        (c .loop-place .place) (c .loop-place-test .left) (c .loop-place .inv)))
+    (each-fewer (new-name (λ k. block-name (c .args .layout .bytes .now) (c .template-raw .result .«first_block» + k))) _
+    (c .loop-place .place) (c .loop-place-test .left) (c .loop-place .inv)))

@@ -1,0 +1,5 @@
+pub mod Kept
+pub mod Filling
+pub mod Owning
+pub mod Agreeing
+pub mod Fetching

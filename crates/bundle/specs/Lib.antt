@@ -1,0 +1,5 @@
+pub mod Decoded
+pub mod View
+pub mod Sections
+pub mod Owners
+pub mod Agreement
