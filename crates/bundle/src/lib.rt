@@ -48,7 +48,7 @@ pub fn examine<'b>(bytes: &'b [u8]) -> Result<Examined<'b>, Defect>
     match first_defect(bytes) {
         Some(found) => Err(found),
         None => Ok(Examined {
-            layout: Layout::new(bytes),
+            layout: Layout { bytes },
         }),
     }
 }
@@ -57,7 +57,7 @@ impl<'b> Examined<'b> {
     pub fn bytes(self) -> &'b [u8]
         ensures { λ r. ⌜ now r ≡ now (self .entry .layout .bytes) ⌝ }
     {
-        self.layout.bytes()
+        self.layout.bytes
     }
 
     pub fn header(self) -> Header
@@ -139,20 +139,14 @@ impl<'b> Template<'b> {
         self.raw.block_count
     }
 
-    // The number of its first block in the bundle; its other blocks follow.
-    pub fn first_block(self) -> u32
-        ensures { λ r. ⌜ r ≡ self .entry .raw .«first_block» ⌝ }
-    {
-        self.raw.first_block
-    }
-
     pub fn block(self, place: u32) -> Option<Block<'b>>
         ensures { λ r. ⌜ mapped block-view r ≡ nth (template-view (self .entry) .blocks) place ⌝ }
     {
-        if place < self.raw.block_count {
+        let raw = self.raw;
+        if place < raw.block_count {
             Some(Block {
                 layout: self.layout,
-                raw: self.layout.block_from(self.raw.first_block, place),
+                raw: self.layout.block_from(raw.first_block, place),
             })
         } else {
             None
@@ -164,7 +158,8 @@ impl<'b> Block<'b> {
     pub fn name(self) -> &'b [u8]
         ensures { λ r. ⌜ now r ≡ block-view (self .entry) .name ⌝ }
     {
-        self.layout.text(self.raw.name_offset, self.raw.name_length)
+        let raw = self.raw;
+        self.layout.text(raw.name_offset, raw.name_length)
     }
 
     pub fn code(self) -> Code<'b>
@@ -178,13 +173,6 @@ impl<'b> Block<'b> {
 }
 
 impl<'b> Code<'b> {
-    // Its number in the bundle.
-    pub fn number(self) -> u32
-        ensures { λ r. ⌜ r ≡ self .entry .number ⌝ }
-    {
-        self.number
-    }
-
     pub fn len(self) -> u32
         ensures { λ r. ⌜ r ≡ length (code-view (self .entry) .steps) ⌝ }
     {

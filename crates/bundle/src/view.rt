@@ -13,18 +13,18 @@ pub struct Examined<'b> {
 #[derive(Clone, Copy)]
 pub struct Template<'b> {
     pub(super) layout: Layout<'b>,
-    pub(super) raw: TemplateRecord,
+    pub raw: TemplateRecord,
 }
 
 #[derive(Clone, Copy)]
 pub struct Block<'b> {
     pub(super) layout: Layout<'b>,
-    pub(super) raw: BlockRecord,
+    pub raw: BlockRecord,
 }
 
 // A list of instructions: the main code of a template, or the code of a block.
 #[derive(Clone, Copy)]
 pub struct Code<'b> {
     pub(super) layout: Layout<'b>,
-    pub(super) number: u32,
+    pub number: u32,
 }

@@ -91,7 +91,7 @@ pub fn first_defect(bytes: &[u8]) -> Option<Defect>
     ensures value { λ r. ⌜ r ≡ defect (now (bytes .entry)) ⌝ }
     ensures lowest { λ r. ⌜ cause-of r ≡ cause (now (bytes .entry)) ⌝ }
 {
-    let layout = Layout::new(bytes);
+    let layout = Layout { bytes };
     match first_defect_in(layout, &HEADER_RULES) {
         Some(found) => Some(found),
         None => first_defect_in(layout, &BODY_RULES),

@@ -18,7 +18,7 @@ fn name_of_block<'b>(layout: Layout<'b>, number: u32) -> &'b [u8]
 }
 
 // The first block whose name is one too many.
-pub fn first_past_limit(layout: Layout<'_>) -> Option<u32>
+pub(crate) fn first_past_limit(layout: Layout<'_>) -> Option<u32>
     ensures { λ r. ⌜ r ≡ breach (now (layout .entry .bytes)) BlockNameLimit ⌝ }
 {
     let mut firsts = [0; MAX_BLOCK_NAMES];

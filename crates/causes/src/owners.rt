@@ -117,7 +117,7 @@ fn tally_runs(layout: Layout<'_>, owned: Owned) -> Tally
 }
 
 // The first record that is named more or less than once.
-pub fn first_not_owned_once(layout: Layout<'_>, owned: Owned) -> Option<u32>
+pub(crate) fn first_not_owned_once(layout: Layout<'_>, owned: Owned) -> Option<u32>
     requires { ⌜ all-kept (now (layout .bytes)) header-rules ≡ true ⌝ }
     ensures { λ r. ⌜ r ≡ breach (now (layout .entry .bytes)) (Owner owned) ⌝ }
 {

@@ -21,7 +21,7 @@ use section::Section;
 // A byte string, read as a bundle.
 #[derive(Clone, Copy)]
 pub struct Layout<'b> {
-    bytes: &'b [u8],
+    pub bytes: &'b [u8],
 }
 
 fn u8_at(bytes: &[u8], at: usize) -> u8
@@ -75,18 +75,6 @@ impl Section {
 }
 
 impl<'b> Layout<'b> {
-    pub fn new(bytes: &'b [u8]) -> Layout<'b>
-        ensures { λ r. ⌜ now (r .bytes) ≡ now (bytes .entry) ⌝ }
-    {
-        Layout { bytes }
-    }
-
-    pub fn bytes(self) -> &'b [u8]
-        ensures { λ r. ⌜ now r ≡ now (self .entry .bytes) ⌝ }
-    {
-        self.bytes
-    }
-
     pub fn count(self, section: Section) -> u32
         ensures { λ r. ⌜ r ≡ recordsOf (now (self .entry .bytes)) section ⌝ }
     {

@@ -31,7 +31,7 @@ fn name_of_block_from<'b>(layout: Layout<'b>, first: u32, place: u32) -> &'b [u8
 }
 
 // Whether no template before this one has its name.
-pub fn is_new_template(layout: Layout<'_>, number: u32) -> bool
+pub(crate) fn is_new_template(layout: Layout<'_>, number: u32) -> bool
     ensures { λ r. ⌜ r ≡ new-name (template-name (now (layout .entry .bytes))) number ⌝ }
 {
     let name = name_of_template(layout, number);
@@ -57,7 +57,7 @@ fn is_new_block(layout: Layout<'_>, first: u32, place: u32) -> bool
 }
 
 // Whether the blocks of a template have different names.
-pub fn block_names_differ(layout: Layout<'_>, number: u32) -> bool
+pub(crate) fn block_names_differ(layout: Layout<'_>, number: u32) -> bool
     ensures { λ r. ⌜ r ≡ keeps-record (now (layout .entry .bytes)) RecordRule.BlockNames number ⌝ }
 {
     let raw = layout.template(number);

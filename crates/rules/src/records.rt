@@ -128,10 +128,10 @@ fn keeps(layout: Layout<'_>, rule: RecordRule, number: u32) -> bool
     ensures { λ r. ⌜ r ≡ keeps-record (now (layout .entry .bytes)) rule number ⌝ }
 {
     match rule {
-        RecordRule::Size => size_allowed(layout.bytes().len()),
+        RecordRule::Size => size_allowed(layout.bytes.len()),
         RecordRule::TemplateLimit => layout.count(Section::Templates) <= MAX_TEMPLATES,
         RecordRule::SectionStart(section) => layout.offset(section) as u64 == due(layout, section),
-        RecordRule::BundleEnd => finish(layout, Section::Text) == layout.bytes().len() as u64,
+        RecordRule::BundleEnd => finish(layout, Section::Text) == layout.bytes.len() as u64,
         RecordRule::TemplateName => {
             let raw = layout.template(number);
             is_inside(layout, Section::Text, raw.name_offset, raw.name_length)

@@ -1,5 +1,4 @@
-use mathlib.Core.Path.{_≡_, sym, ap, _∙_}
-use Rattle.causes.specs.Causes.{cause-of}
+use mathlib.Core.Path.{refl}
 use Rattle.bundle.proofs.Filling.{sections-fill}
 use Rattle.bundle.proofs.Owning.{records-have-one-owner}
 use Rattle.bundle.proofs.Agreeing.{agreeing-hold-one-program}
@@ -19,7 +18,7 @@ pub returns-in-None : need.returns-in-None
 returns-in-None c = record {
   lowest = c .in-None .ensures tt .lowest;
   refused = c .in-None .ensures tt .value;
-  accepted = c .new .ensures;
+  accepted = refl;
   sections = sections-fill (c .args .bytes .now);
   owners = records-have-one-owner (c .args .bytes .now);
   content = agreeing-hold-one-program (c .args .bytes .now);

@@ -7,11 +7,11 @@ use Rattle.bundle.specs.Decoded.{block}
 use Rattle.bundle.specs.View.{block-view}
 use Rattle.bundle.proofs.view.Template.block.Needs as need
 
-pub returns-then-place-self : need.returns-then-place-self
-returns-then-place-self c =
+pub returns-then-place-raw : need.returns-then-place-raw
+returns-then-place-raw c =
     ap (λ (r : BlockRecord). Some (block-view (record { layout = c .args .self .layout; raw = r }))) (c .block-from .ensures)
-    ∙ sym (nth-listed (λ k. block (c .args .self .layout .bytes .now) (c .args .self .raw .«first_block» + k)) _ (c .args .place) (c .if-place-self .taken))
+    ∙ sym (nth-listed (λ k. block (c .args .self .layout .bytes .now) (c .args .self .raw .«first_block» + k)) _ (c .args .place) (c .if-place-raw .taken))
 
-pub returns-else-place-self : need.returns-else-place-self
-returns-else-place-self c =
-    sym (nth-past-listed (λ k. block (c .args .self .layout .bytes .now) (c .args .self .raw .«first_block» + k)) _ (c .args .place) (c .if-place-self .left))
+pub returns-else-place-raw : need.returns-else-place-raw
+returns-else-place-raw c =
+    sym (nth-past-listed (λ k. block (c .args .self .layout .bytes .now) (c .args .self .raw .«first_block» + k)) _ (c .args .place) (c .if-place-raw .left))
