@@ -1,0 +1,4 @@
+pub mod Standing
+pub mod Paths
+pub mod Entries
+pub mod Search
