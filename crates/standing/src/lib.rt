@@ -1,7 +1,7 @@
 // The data-flow check of a code: every path to an instruction brings the same operand height and the same open marks.
 ghost use mathlib.Core.Path.{_≡_};
 ghost use Prim.Native.Nat.{ℕ, _+_, _-_, _<_, _≤_, _^_};
-ghost use lib.ListN.{length};
+ghost use lib.ListN.{length, take, replicate};
 ghost use Rattle.std.specs.Orderings.{Decides};
 ghost use Rattle.layout.specs.Bounded.{first-or};
 ghost use Rattle.standing.specs.Standing.{next-place, other-place, takes, unless, is-scope, is-capture, is-loop, closes-loop};
@@ -12,6 +12,7 @@ ghost use Rattle.standing.specs.Search.{limits, unknowns, Noted, Searching, Vi
 
 pub mod entry;
 pub mod shape;
+pub mod table;
 
 use entry::Entry;
 use shape::Broken;
@@ -19,6 +20,8 @@ use shape::Mark;
 use shape::MarkKind;
 use shape::Reason;
 use shape::Shape;
+use table::PLACES;
+use table::Table;
 
 // At most this many operands, and this many open marks.
 pub const MAX_HEIGHT: u32 = 64;
@@ -364,4 +367,28 @@ fn search(code: &[Shape], entries: &mut [Option<Entry>], pending: &mut [u32]) ->
         }
     }
     Ok(())
+}
+
+impl Table {
+    pub fn new() -> Table {
+        Table { entries: [None; PLACES], pending: [0; PLACES] }
+    }
+
+    // Whether the code stands. If it does, the table has what the paths bring to each of its places, the end too.
+    pub fn check(&mut self, code: &[Shape]) -> Result<(), Broken>
+        ensures { λ r. ⌜ Judged (now (code .entry)) (take (length (now (code .entry)) + 1) (now (self .exit) .entries)) r ⌝ }
+    {
+        if code.len() >= PLACES {
+            return Err(Broken { place: 0, reason: Reason::TooLong });
+        }
+        let places = code.len() + 1;
+        search(code, &mut self.entries[0..places], &mut self.pending[0..places])
+    }
+
+    // What the table has for a place.
+    pub fn entry(&self, place: u32) -> Option<Entry>
+        ensures { λ r. ⌜ r ≡ item (now (self .entry) .entries) place ⌝ }
+    {
+        entry_at(&self.entries, place)
+    }
 }

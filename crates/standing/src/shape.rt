@@ -54,6 +54,8 @@ pub enum Reason {
     // the code ends with an operand or an open mark
     NotEmptyAtEnd,
     Outside,
+    // the code has more instructions than a code may have
+    TooLong,
 }
 
 // An instruction whose standing is broken, by its place in the code.
