@@ -4,7 +4,7 @@ ghost use mathlib.Core.Bool.{cond};
 ghost use Prim.Native.Nat.{ℕ, _<_};
 ghost use lib.Dec.{ltb};
 ghost use lib.ListN.{length};
-ghost use Rattle.std.specs.Options.{mapped};
+ghost use Rattle.std.specs.Options.{mapped, Cases as BySome};
 ghost use Rattle.std.specs.Results.{Cases};
 ghost use Rattle.std.specs.Finite.{nth};
 ghost use Rattle.std.specs.declared.option.Option.the-variants.{Some, None};
@@ -93,7 +93,8 @@ impl<'b> Examined<'b> {
     }
 
     pub fn code(self, number: u32) -> Option<Code<'b>>
-        ensures { λ r. ⌜ mapped code-view r ≡ cond (ltb number (records (now (self .entry .layout .bytes)) Section.Codes)) (Some (codeAt (now (self .entry .layout .bytes)) number)) None ⌝ }
+        ensures value { λ r. ⌜ mapped code-view r ≡ cond (ltb number (records (now (self .entry .layout .bytes)) Section.Codes)) (Some (codeAt (now (self .entry .layout .bytes)) number)) None ⌝ }
+        ensures place { λ r. ⌜ BySome r (Unit {0}) (λ c. (now (c .layout .bytes) ≡ now (self .entry .layout .bytes)) × (c .number ≡ number)) ⌝ }
     {
         if number < self.layout.count(Section::Codes) {
             Some(Code {
