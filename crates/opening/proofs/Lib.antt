@@ -1,1 +1,4 @@
 pub mod Reading
+pub mod Unreached
+pub mod Verdict
+pub mod Empty

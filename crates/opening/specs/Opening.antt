@@ -1,7 +1,7 @@
 -- When a bundle opens, and the lowest of its causes 1 to 5.
-use Prim.Native.Nat.{ℕ, suc, _<_}
+use Prim.Native.Nat.{ℕ, _<_}
 use mathlib.Core.Path.{_≡_}
-use mathlib.Core.List.{List}
+use mathlib.Core.List.{List, [], _∷_, _++_}
 use lib.ListN.{length}
 use Rattle.layout.specs.Layout.{records}
 use Rattle.layout.specs.declared.section.Section.the-variants.{Codes}
@@ -23,10 +23,10 @@ pub record Opens (b : List ℕ) : Type 0 where
   pub format : cause b ≡ 0
   pub standing : All-stand b
 
--- cause 5: some code does not stand
+-- The lowest of the causes 1 to 5, or 0: a cause of the format comes first, and cause 5 is that some code does not stand.
 pub data Lowest (b : List ℕ) : ℕ → Type 0 where
   none : Opens b → Lowest b 0
-  format : {n : ℕ} → cause b ≡ suc n → Lowest b (suc n)
+  format : (cause b ≡ 0 → ⊥) → Lowest b (cause b)
   standing : cause b ≡ 0 → (All-stand b → ⊥) → Lowest b 5
 
 -- The codes of the two bundles have the same instructions wherever a path of the first reaches; what no path reaches may
@@ -40,3 +40,10 @@ pub record Same-where-reached (b c : List ℕ) : Type 0 where
 abbrev pub Unreached-instructions-do-not-matter : List ℕ → Type 0
 Unreached-instructions-do-not-matter b =
     (c : List ℕ) → Same-where-reached b c → (All-stand b → All-stand c) × (All-stand c → All-stand b)
+
+-- the smallest bundle: a header of six empty sections
+abbrev pub empty-section : List ℕ
+empty-section = 0 ∷ 0 ∷ 0 ∷ 0 ∷ 48 ∷ 0 ∷ 0 ∷ 0 ∷ []
+
+abbrev pub empty-bundle : List ℕ
+empty-bundle = empty-section ++ (empty-section ++ (empty-section ++ (empty-section ++ (empty-section ++ empty-section))))

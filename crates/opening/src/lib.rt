@@ -8,15 +8,18 @@ ghost use Rattle.layout.specs.declared.section.Section.the-variants.{Codes};
 ghost use Rattle.causes.specs.Causes.{cause as causeOf};
 ghost use Rattle.bundle.specs.View.{bytes as bytesOf};
 ghost use Rattle.standing.specs.Search.{Judged};
-ghost use Rattle.opening.specs.Opening.{code-shapes, All-stand, Lowest, Unreached-instructions-do-not-matter};
-ghost use Rattle.opening.specs.Refusals.{number};
+ghost use Rattle.opening.specs.Opening.{code-shapes, All-stand, Lowest, Unreached-instructions-do-not-matter, empty-bundle};
+ghost use Rattle.std.specs.Results.{Cases as ByOk};
+ghost use Rattle.opening.specs.Refusals.{number, told};
 
+pub mod opened;
 pub mod refusal;
 pub mod shapes;
 
 use bundle::examine;
 use bundle::view::Code;
 use bundle::view::Examined;
+use opened::Bundle;
 use refusal::BrokenCode;
 use refusal::Refusal;
 use shapes::shape_of;
@@ -48,4 +51,78 @@ fn check_code(code: Code<'_>, table: &mut Table) -> Result<(), Broken>
     let mut shapes = [Shape::Plain { takes: 0, gives: 0 }; MAX_CODE];
     let count = read_shapes(code, &mut shapes);
     table.check(&shapes[0..count])
+}
+
+// The first code of the bundle that does not stand.
+fn first_broken(bundle: Examined<'_>) -> Option<BrokenCode>
+    requires { ⌜ causeOf (now (bundle .layout .bytes)) ≡ 0 ⌝ }
+    ensures { λ r. ⌜ Cases r (All-stand (now (bundle .entry .layout .bytes))) (λ _. All-stand (now (bundle .entry .layout .bytes)) → ⊥) ⌝ }
+{
+    let mut table = Table::new();
+    for number in 0..bundle.header().codes.count {
+        if let Some(code) = bundle.code(number) {
+            if let Err(broken) = check_code(code, &mut table) {
+                return Some(BrokenCode { code: number, broken });
+            }
+        }
+    }
+    None
+}
+
+// Why these bytes do not open as a bundle: the lowest of the causes 1 to 5, or none.
+pub fn refusal_of(bytes: &[u8]) -> Option<Refusal>
+    ensures lowest { λ r. ⌜ Lowest (now (bytes .entry)) (number r) ⌝ }
+    ensures unreached { λ _. ⌜ Unreached-instructions-do-not-matter (now (bytes .entry)) ⌝ }
+{
+    match examine(bytes) {
+        Err(defect) => Some(Refusal::Format(defect)),
+        Ok(bundle) => match first_broken(bundle) {
+            Some(broken) => Some(Refusal::Standing(broken)),
+            None => None,
+        },
+    }
+}
+
+// The bundle of no templates: a header in which every section is empty.
+const EMPTY: [u8; 48] = [
+    0, 0, 0, 0, 48, 0, 0, 0, 0, 0, 0, 0, 48, 0, 0, 0, 0, 0, 0, 0, 48, 0, 0, 0, 0, 0, 0, 0, 48, 0, 0, 0, 0, 0, 0, 0, 48, 0, 0, 0, 0, 0,
+    0, 0, 48, 0, 0, 0,
+];
+
+impl<'b> Bundle<'b> {
+    // Opens these bytes in the place of what the bundle was. A refusal leaves it as it was.
+    pub fn open(&mut self, bytes: &'b [u8]) -> Result<(), Refusal>
+        ensures lowest { λ r. ⌜ Lowest (now (bytes .entry)) (told r) ⌝ }
+        ensures after { λ r. ⌜ ByOk r (λ _. now (now (self .exit) .parts .layout .bytes) ≡ now (bytes .entry)) (λ _. now (self .exit) ≡ now (self .entry)) ⌝ }
+    {
+        match examine(bytes) {
+            Err(defect) => Err(Refusal::Format(defect)),
+            Ok(parts) => match first_broken(parts) {
+                Some(broken) => Err(Refusal::Standing(broken)),
+                None => {
+                    *self = Bundle { parts };
+                    Ok(())
+                }
+            },
+        }
+    }
+
+    // Its templates, blocks, codes and constants.
+    pub fn parts(&self) -> Examined<'b>
+        ensures { λ r. ⌜ now (r .layout .bytes) ≡ now (now (self .entry) .parts .layout .bytes) ⌝ }
+    {
+        self.parts
+    }
+}
+
+impl Bundle<'static> {
+    // The bundle that every record begins with.
+    pub fn empty() -> Bundle<'static>
+        ensures { λ r. ⌜ now (r .parts .layout .bytes) ≡ empty-bundle ⌝ }
+    {
+        match examine(&EMPTY) {
+            Ok(parts) => Bundle { parts },
+            Err(_) => unreachable(),
+        }
+    }
 }

@@ -1,0 +1,55 @@
+-- From the answers of the two checks to the lowest cause.
+use Prim.Native.Nat.{ℕ, _+_, _≤_, _<_}
+use mathlib.Core.Path.{_≡_, refl, sym, ap, subst, _∙_}
+use mathlib.Core.Bool.{true}
+use mathlib.Core.List.{List, _++_}
+use lib.ListN.{length, take}
+use lib.Dec.{ltb}
+use native.Mathlib.Omega.{arith}
+use Rattle.std.specs.Options.{mapped}
+use Rattle.std.specs.declared.option.Option.{Option}
+use Rattle.std.specs.declared.option.Option.the-variants.{Some, None}
+use Rattle.std.specs.declared.result.Result.{Result}
+use Rattle.std.specs.declared.result.Result.the-variants.{Ok, Err}
+use Rattle.layout.specs.Layout.{records}
+use Rattle.layout.specs.Bounded.{first-or}
+use Rattle.layout.specs.declared.section.Section.the-variants.{Codes}
+use Rattle.standing.specs.declared.entry.Entry.{Entry}
+use Rattle.standing.specs.declared.shape.Broken.{Broken}
+use Rattle.standing.specs.declared.shape.Shape.{Shape}
+use Rattle.standing.specs.Paths.{Stands}
+use Rattle.standing.specs.Search.{Exact, Judged}
+use Rattle.causes.specs.Causes.{cause, defect, first-defect, header-rules, reference-rules, field-rules, name-rules, body-rules}
+use Rattle.causes.specs.declared.defect.Defect.{Defect}
+use Rattle.causes.proofs.Search.{first-defect-append, kept-none}
+use Rattle.bundle.specs.Decoded.{code}
+use Rattle.bundle.proofs.Kept.{clean}
+use Rattle.opening.specs.Opening.{code-shapes, All-stand, Opens, Lowest}
+use Rattle.opening.proofs.Reading.{code-short, shapes-long}
+
+-- a bundle without causes 1 to 4 has no broken rule
+pub no-defect : (b : List ℕ) → cause b ≡ 0 → defect b ≡ None
+unfolding defect
+no-defect b h =
+    let w = clean b h in
+    first-defect-append b header-rules body-rules
+    ∙ ap (λ x. first-or x (first-defect b body-rules)) (kept-none b header-rules (w .headers))
+    ∙ first-defect-append b reference-rules (field-rules ++ name-rules)
+    ∙ ap (λ x. first-or x (first-defect b (field-rules ++ name-rules))) (kept-none b reference-rules (w .references))
+    ∙ first-defect-append b field-rules name-rules
+    ∙ ap (λ x. first-or x (first-defect b name-rules)) (kept-none b field-rules (w .fields))
+    ∙ kept-none b name-rules (w .names)
+
+pub some-defect : (b : List ℕ) (d : Defect) → Some d ≡ defect b → cause b ≡ 0 → ⊥
+some-defect b d e h = let n = no-defect b h in let z : _≡_ {A = ℕ} 0 1 = cc in omega arith
+
+-- a code that was judged to stand does
+pub judged-stands : (xs : List Shape) (u : List (Option Entry)) (r : Result (Unit {0}) Broken) → Judged xs u r → ((b : Broken) → r ≡ Err b → ⊥) → Stands xs
+judged-stands xs u (Ok x) j never = j .stands
+judged-stands xs u (Err b) j never = absurd (never b refl)
+
+-- one that was judged not to stand keeps the bundle from opening
+pub judged-broken : (b : List ℕ) (c : ℕ) → cause b ≡ 0 → c < records b Codes
+    → (length (code-shapes b c) ≤ 1024 → Stands (code-shapes b c) → ⊥) → All-stand b → ⊥
+judged-broken b c h l no-stand all =
+    no-stand (omega (arith, code-short b c h l, shapes-long b c)) (all c l)
