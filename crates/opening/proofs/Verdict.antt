@@ -43,13 +43,25 @@ no-defect b h =
 pub some-defect : (b : List ℕ) (d : Defect) → Some d ≡ defect b → cause b ≡ 0 → ⊥
 some-defect b d e h = let n = no-defect b h in let z : _≡_ {A = ℕ} 0 1 = cc in omega arith
 
--- a code that was judged to stand does
-pub judged-stands : (xs : List Shape) (u : List (Option Entry)) (r : Result (Unit {0}) Broken) → Judged xs u r → ((b : Broken) → r ≡ Err b → ⊥) → Stands xs
-judged-stands xs u (Ok x) j never = j .stands
-judged-stands xs u (Err b) j never = absurd (never b refl)
+-- What the check of a code tells, where the code is one of this bundle: c is its bytes, and k its number, as the code has them.
+module _ (b c : List ℕ) (n k : ℕ) (bytes : c ≡ b) (number : k ≡ n) (clean : cause b ≡ 0) (placed : n < records b Codes) where
+  abbrev Told : (List Shape → Type 0) → Type 0
+  Told P = cause c ≡ 0 → k < records c Codes → P (code-shapes c k)
 
--- one that was judged not to stand keeps the bundle from opening
-pub judged-broken : (b : List ℕ) (c : ℕ) → cause b ≡ 0 → c < records b Codes
-    → (length (code-shapes b c) ≤ 1024 → Stands (code-shapes b c) → ⊥) → All-stand b → ⊥
-judged-broken b c h l no-stand all =
-    no-stand (omega (arith, code-short b c h l, shapes-long b c)) (all c l)
+  as-told : (P : List Shape → Type 0) → Told P → P (code-shapes b n)
+  as-told P t =
+      subst (λ m. P (code-shapes b m)) number
+      (subst (λ (x : List ℕ). P (code-shapes x k)) bytes
+        (t (subst (λ (x : List ℕ). cause x ≡ 0) (sym bytes) clean)
+          (subst (λ (x : List ℕ). k < records x Codes) (sym bytes) (subst (λ m. m < records b Codes) (sym number) placed))))
+
+  -- a code that was judged to stand does
+  pub judged-stands : (U : List Shape → List (Option Entry)) (r : Result (Unit {0}) Broken) → Told (λ xs. Judged xs (U xs) r)
+      → ((x : Broken) → r ≡ Err x → ⊥) → Stands (code-shapes b n)
+  judged-stands U (Ok x) t never = as-told (λ xs. Judged xs (U xs) (Ok x)) t .stands
+  judged-stands U (Err x) t never = absurd (never x refl)
+
+  -- one that was judged not to stand keeps the bundle from opening
+  pub judged-broken : Told (λ xs. length xs ≤ 1024 → Stands xs → ⊥) → All-stand b → ⊥
+  judged-broken t all =
+      as-told (λ xs. length xs ≤ 1024 → Stands xs → ⊥) t (omega (arith, code-short b n clean placed, shapes-long b n)) (all n placed)

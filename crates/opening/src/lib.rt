@@ -6,11 +6,11 @@ ghost use Rattle.std.specs.Options.{Cases};
 ghost use Rattle.layout.specs.Layout.{records};
 ghost use Rattle.layout.specs.declared.section.Section.the-variants.{Codes};
 ghost use Rattle.causes.specs.Causes.{cause as causeOf};
-ghost use Rattle.bundle.specs.View.{bytes as bytesOf};
+ghost use Rattle.bundle.specs.View.{code-view};
 ghost use Rattle.standing.specs.Search.{Judged};
 ghost use Rattle.opening.specs.Opening.{code-shapes, All-stand, Lowest, Unreached-instructions-do-not-matter, empty-bundle};
 ghost use Rattle.std.specs.Results.{Cases as ByOk};
-ghost use Rattle.opening.specs.Refusals.{number, told};
+ghost use Rattle.opening.specs.Refusals.{number, cause-number, told};
 
 pub mod opened;
 pub mod refusal;
@@ -24,33 +24,35 @@ use refusal::BrokenCode;
 use refusal::Refusal;
 use shapes::shape_of;
 use standing::shape::Broken;
+use standing::shape::Reason;
 use standing::shape::Shape;
 use standing::table::Table;
 
 const MAX_CODE: usize = 1024;
 
-// Reads what the instructions of a code do, and how many there are.
-fn read_shapes(code: Code<'_>, shapes: &mut [Shape]) -> usize
-    requires { ⌜ causeOf (now (code .layout .bytes)) ≡ 0 ⌝ ∗ ⌜ code .number < records (now (code .layout .bytes)) Codes ⌝ ∗ ⌜ length (now shapes) ≡ 1024 ⌝ }
-    ensures { λ r. ⌜ r ≤ 1024 ⌝ ∗ ⌜ take r (now (shapes .exit)) ≡ code-shapes (now (code .entry .layout .bytes)) (code .entry .number) ⌝ }
+// Reads what the instructions of a code do.
+fn read_shapes(code: Code<'_>, count: u32, shapes: &mut [Shape])
+    requires { ⌜ count ≡ length (code-view code .steps) ⌝ ∗ ⌜ count ≤ length (now shapes) ⌝ }
+    ensures { λ _. ⌜ (causeOf (now (code .entry .layout .bytes)) ≡ 0 → code .entry .number < records (now (code .entry .layout .bytes)) Codes → take count (now (shapes .exit)) ≡ code-shapes (now (code .entry .layout .bytes)) (code .entry .number)) ⌝ }
 {
-    let count = code.len();
     for place in 0..count {
         if let Some(instruction) = code.get(place) {
             shapes[place as usize] = shape_of(instruction);
         }
     }
-    count as usize
 }
 
-// Whether a code of the bundle stands.
-fn check_code(code: Code<'_>, table: &mut Table) -> Result<(), Broken>
-    requires { ⌜ causeOf (now (code .layout .bytes)) ≡ 0 ⌝ ∗ ⌜ code .number < records (now (code .layout .bytes)) Codes ⌝ }
-    ensures { λ r. ⌜ Judged (code-shapes (now (code .entry .layout .bytes)) (code .entry .number)) (take (length (code-shapes (now (code .entry .layout .bytes)) (code .entry .number)) + 1) (now (table .exit) .entries)) r ⌝ }
+// Whether a code stands. If it does, the table has what the paths bring to each of its places.
+pub fn check_code(code: Code<'_>, table: &mut Table) -> Result<(), Broken>
+    ensures { λ r. ⌜ (causeOf (now (code .entry .layout .bytes)) ≡ 0 → code .entry .number < records (now (code .entry .layout .bytes)) Codes → Judged (code-shapes (now (code .entry .layout .bytes)) (code .entry .number)) (take (length (code-shapes (now (code .entry .layout .bytes)) (code .entry .number)) + 1) (now (table .exit) .entries)) r) ⌝ }
 {
+    let count = code.len();
+    if count as usize > MAX_CODE {
+        return Err(Broken { place: 0, reason: Reason::TooLong });
+    }
     let mut shapes = [Shape::Plain { takes: 0, gives: 0 }; MAX_CODE];
-    let count = read_shapes(code, &mut shapes);
-    table.check(&shapes[0..count])
+    read_shapes(code, count, &mut shapes);
+    table.check(&shapes[0..count as usize])
 }
 
 // The first code of the bundle that does not stand.
@@ -80,6 +82,18 @@ pub fn refusal_of(bytes: &[u8]) -> Option<Refusal>
             Some(broken) => Some(Refusal::Standing(broken)),
             None => None,
         },
+    }
+}
+
+impl Refusal {
+    // The number of the cause.
+    pub fn cause(self) -> u8
+        ensures { λ r. ⌜ r ≡ cause-number self ⌝ }
+    {
+        match self {
+            Refusal::Format(defect) => defect.cause(),
+            Refusal::Standing(_) => 5,
+        }
     }
 }
 

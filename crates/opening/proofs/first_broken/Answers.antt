@@ -26,10 +26,8 @@ returns-in-Err c =
     let l : c .loop-number .number < records (c .args .bundle .layout .bytes .now) Codes =
         omega (arith, ap (λ (h : Header). h .codes .count) (c .header-number-end .ensures)) in
     let p = c .in-Some .ensures tt .place in
-    judged-broken (c .args .bundle .layout .bytes .now) (c .loop-number .number) (c .pre) l
-    (subst (λ n. length (code-shapes (c .args .bundle .layout .bytes .now) n) ≤ 1024 → Stands (code-shapes (c .args .bundle .layout .bytes .now) n) → ⊥) (p .1)
-      (subst (λ (b : List ℕ). length (code-shapes b (c .in-Some .code .number)) ≤ 1024 → Stands (code-shapes b (c .in-Some .code .number)) → ⊥) (p .0)
-        (c .in-Err .ensures tt)))
+    judged-broken (c .args .bundle .layout .bytes .now) (c .in-Some .code .layout .bytes .now) (c .loop-number .number) (c .in-Some .code .number)
+    (p .0) (p .1) (c .pre) l (c .in-Err .ensures tt)
 
 pub loop-number-again : need.loop-number-again
 loop-number-again c =
@@ -39,10 +37,9 @@ loop-number-again c =
     (elim (c .match-code .came) [
       in-Some·in-rest-check-code w ↦
         let p = w .in-Some .ensures tt .place in
-        subst (λ n. Stands (code-shapes (c .args .bundle .layout .bytes .now) n)) (p .1)
-        (subst (λ (b : List ℕ). Stands (code-shapes b (w .in-Some .code .number))) (p .0)
-          (judged-stands (code-shapes (w .in-Some .code .layout .bytes .now) (w .in-Some .code .number)) _ (w .check-code .result)
-            (w .check-code .ensures) (w .in-rest-check-code .not-Err)))
+        judged-stands (c .args .bundle .layout .bytes .now) (w .in-Some .code .layout .bytes .now) (c .loop-number .number) (w .in-Some .code .number)
+        (p .0) (p .1) (c .pre) l (λ xs. take (length xs + 1) (w .check-code .last .table .entries)) (w .check-code .result)
+        (w .check-code .ensures) (w .in-rest-check-code .not-Err)
     | in-rest w ↦
         let e = sym (cond-true (ltb (c .loop-number .number) (records (c .args .bundle .layout .bytes .now) Codes)) _ _ (lt-ltb _ _ l)) in
         absurd (none-some (code (c .args .bundle .layout .bytes .now) (c .loop-number .number)) refl
