@@ -2,22 +2,23 @@
 ghost use mathlib.Core.Path.{_≡_};
 ghost use Rattle.std.specs.Of.String.{string-bytes};
 ghost use Rattle.std.specs.Vec.{made};
-ghost use Rattle.causes.specs.Causes.{cause as causeOf};
-ghost use Rattle.console.specs.Answer.{cause-line, answer-to};
+ghost use Rattle.opening.specs.Opening.{Lowest};
+ghost use Rattle.console.specs.Answer.{cause-line, Answers};
+ghost use Rattle.console.specs.Hex.{line-bytes};
 
 pub mod escape;
 pub mod hex;
 
-use causes::first_defect;
 use hex::bytes_of_line;
+use opening::refusal_of;
 use std::alloc::AllocError;
 use std::alloc::Global;
 
 fn cause(bytes: &[u8]) -> u8
-    ensures { λ r. ⌜ r ≡ causeOf (now (bytes .entry)) ⌝ }
+    ensures { λ r. ⌜ Lowest (now (bytes .entry)) r ⌝ }
 {
-    match first_defect(bytes) {
-        Some(defect) => defect.cause(),
+    match refusal_of(bytes) {
+        Some(refusal) => refusal.cause(),
         None => 0,
     }
 }
@@ -28,10 +29,10 @@ fn cause_line(heap: Global, number: u8) -> Result<String, AllocError>
     format!(heap, "cause {number}")
 }
 
-// The answer to a line: the lowest of the causes 1 to 4 of the bundle that it writes, 0 where there is none,
+// The answer to a line: the lowest of the causes 1 to 5 of the bundle that it writes, 0 where it opens,
 // or that it writes no bundle.
 pub fn answer(heap: Global, line: &[u8]) -> Result<String, AllocError>
-    ensures { λ r. ⌜ made r (λ s. string-bytes s ≡ answer-to (now (line .entry))) ⌝ }
+    ensures { λ r. ⌜ made r (λ s. Answers (line-bytes (now (line .entry))) (string-bytes s)) ⌝ }
 {
     match bytes_of_line(heap, line)? {
         Some(bytes) => cause_line(heap, cause(&bytes)),

@@ -1,13 +1,14 @@
-// Shows what is in a bundle, or answers which of the causes 1 to 4 keeps it from opening.
+// Shows what is in a bundle, and says whether it opens or which of the causes 1 to 5 keeps it from opening.
 use bundle::examine;
 use console::answer;
 use listing::list;
+use opening::refusal_of;
 use std::env;
 use std::error::AnyError;
 use std::fs;
 use std::io::BufRead;
 use std::io::BufReader;
-use words::NO_CAUSE;
+use words::OPENS;
 use words::explain;
 
 const USAGE: &str = "usage: startlist examine [FILE]";
@@ -37,14 +38,12 @@ fn examine_file(rt: &LibcRuntime, path: &str) -> Result<(), AnyError> {
         Err(e) => return Err(format!(heap, "cannot read {path}: {e}")?.into()),
     };
     match examine(&bytes) {
-        Ok(bundle) => {
-            rt.println(list(heap, bundle)?)?;
-            rt.println(NO_CAUSE)?;
-        }
-        Err(defect) => {
-            println!(rt, "{} bytes", bytes.len())?;
-            rt.println(explain(heap, &bytes, defect)?)?;
-        }
+        Ok(bundle) => rt.println(list(heap, bundle)?)?,
+        Err(_) => println!(rt, "{} bytes", bytes.len())?,
+    }
+    match refusal_of(&bytes) {
+        Some(refusal) => rt.println(explain(heap, &bytes, refusal)?)?,
+        None => rt.println(OPENS)?,
     }
     Ok(())
 }

@@ -1,7 +1,7 @@
 // The words for a bundle that would not open: which rule is broken, which record breaks it, and what is wrong there.
 ghost use Rattle.std.specs.Of.String.{string-bytes};
 ghost use Rattle.std.specs.Vec.{made};
-ghost use Rattle.causes.specs.Causes.{number as numberOf};
+ghost use Rattle.opening.specs.Refusals.{cause-number};
 ghost use Rattle.console.specs.Answer.{cause-line};
 ghost use Rattle.words.specs.Begins.{Begins};
 
@@ -13,22 +13,51 @@ use details::DetailDisplay;
 use details::detail_of;
 use layout::Layout;
 use layout::section::Section;
+use opening::refusal::BrokenCode;
+use opening::refusal::Refusal;
 use rules::Owned;
 use rules::RecordRule;
 use rules::Rule;
+use standing::shape::Reason;
 use std::alloc::AllocError;
 use std::alloc::Global;
 
-// What is said of a bundle that has none of the causes 1 to 4.
-pub const NO_CAUSE: &str = "cause 0: no cause 1 to 4; standing (cause 5) has not been looked at";
+// What is said of a bundle that opens.
+pub const OPENS: &str = "cause 0: the bundle opens";
 
-// Why these bytes would not open: the number of the cause, and which record breaks which rule.
-pub fn explain(heap: Global, bytes: &[u8], defect: Defect) -> Result<String, AllocError>
-    ensures { λ r. ⌜ made r (λ s. Begins (cause-line (numberOf (defect .rule))) (string-bytes s)) ⌝ }
+// Why these bytes do not open: the number of the cause, and which record breaks which rule,
+// or which instruction does not stand.
+pub fn explain(heap: Global, bytes: &[u8], refusal: Refusal) -> Result<String, AllocError>
+    ensures { λ r. ⌜ made r (λ s. Begins (cause-line (cause-number refusal)) (string-bytes s)) ⌝ }
 {
-    let number = defect.cause();
-    let words = words(heap, Layout { bytes }, defect)?;
+    let number = refusal.cause();
+    let words = match refusal {
+        Refusal::Format(defect) => words(heap, Layout { bytes }, defect)?,
+        Refusal::Standing(broken) => standing_words(heap, broken)?,
+    };
     format!(heap, "cause {number}: {words}")
+}
+
+fn standing_words(heap: Global, broken: BrokenCode) -> Result<String, AllocError> {
+    let code = broken.code;
+    let place = broken.broken.place;
+    format!(heap, "code {code}: the instruction at place {place}: {}", reason_words(broken.broken.reason))
+}
+
+fn reason_words(reason: Reason) -> &'static str {
+    match reason {
+        Reason::TakesBelow => "it takes an operand that is not there, or that lies below the innermost open mark",
+        Reason::NoLoop => "no loop is open",
+        Reason::WrongPartner => "the innermost open mark is not one that it closes",
+        Reason::ClosesHigher => "a recursive loop closes higher than it opened",
+        Reason::OpenCapture => "a capture is open",
+        Reason::TooHigh => "it leaves more than 64 operands",
+        Reason::TooManyMarks => "it leaves more than 16 open marks",
+        Reason::PathsDiffer => "it goes on where another path brings other operands or open marks",
+        Reason::NotEmptyAtEnd => "the code ends after it with an operand or an open mark left",
+        Reason::Outside => "it goes on outside its code",
+        Reason::TooLong => "the code has more than 1024 instructions",
+    }
 }
 
 fn words(heap: Global, layout: Layout<'_>, defect: Defect) -> Result<String, AllocError> {
@@ -121,6 +150,7 @@ fn fault_of_record(rule: RecordRule) -> &'static str {
 #[cfg(test)]
 mod tests {
     use super::*;
+    use standing::shape::Broken;
     use std::test::*;
 
     #[test]
@@ -128,9 +158,12 @@ mod tests {
         let heap = rt.alloc();
         let size = Defect { rule: Rule::Record(RecordRule::Size), record: 0 };
         let name = Defect { rule: Rule::Record(RecordRule::TemplateName), record: 3 };
-        let words = explain(heap, &[0; 47], size)?;
+        let words = explain(heap, &[0; 47], Refusal::Format(size))?;
         check_eq(words.as_str(), "cause 1: header: the bundle does not have 48 to 65536 bytes: 47")?;
-        let words = explain(heap, &[0; 48], name)?;
-        check_eq(words.as_str(), "cause 2: template 3: its name lies outside the text section")
+        let words = explain(heap, &[0; 48], Refusal::Format(name))?;
+        check_eq(words.as_str(), "cause 2: template 3: its name lies outside the text section")?;
+        let broken = Broken { place: 7, reason: Reason::NoLoop };
+        let words = explain(heap, &[0; 48], Refusal::Standing(BrokenCode { code: 2, broken }))?;
+        check_eq(words.as_str(), "cause 5: code 2: the instruction at place 7: no loop is open")
     }
 }
