@@ -5,12 +5,14 @@ use bundle::examine;
 use bundle::view::Code;
 use instruction::instructions::Constant;
 use instruction::instructions::Instruction;
+use opening::opened::Bundle;
+use opening::refusal_of;
 use std::test::*;
 
 fn cause(bytes: &[u8]) -> u8 {
-    match examine(bytes) {
-        Ok(_) => 0,
-        Err(defect) => defect.cause(),
+    match refusal_of(bytes) {
+        None => 0,
+        Some(refusal) => refusal.cause(),
     }
 }
 
@@ -48,7 +50,7 @@ fn reads_base_line_and_cell(rt: LibcRuntime) -> Result<(), Fail> {
 }
 
 // One byte changed, and the cause that this has: the rows without a cause stand beside those that have one.
-const CHANGES: [(usize, u8, u8); 20] = [
+const CHANGES: [(usize, u8, u8); 24] = [
     (0, 4, 1),
     (4, 49, 1),
     (56, 1, 2),
@@ -61,7 +63,8 @@ const CHANGES: [(usize, u8, u8); 20] = [
     (164, 1, 0),
     (164, 2, 3),
     (152, 1, 3),
-    (216, 2, 0),
+    (216, 58, 0),
+    (216, 2, 5),
     (216, 4, 3),
     (217, 1, 3),
     (228, 255, 0),
@@ -69,6 +72,9 @@ const CHANGES: [(usize, u8, u8); 20] = [
     (264, 59, 3),
     (88, 5, 0),
     (88, 4, 4),
+    (424, 56, 5),
+    (424, 54, 5),
+    (424, 37, 5),
 ];
 
 #[test]
@@ -98,4 +104,22 @@ fn opens_sizes_from_48_to_65536(rt: LibcRuntime) -> Result<(), Fail> {
     check_eq(cause(&smallest[0..47]), 1)?;
     check_eq(cause(&text_only(&rt, 65488)?), 0)?;
     check_eq(cause(&text_only(&rt, 65489)?), 1)
+}
+
+// Opens the empty bundle, then `whole`, and then refuses a beginning of it.
+fn keeps<'b>(bundle: &mut Bundle<'b>, whole: &'b [u8], beginning: &'b [u8]) -> Result<(), Fail> {
+    check(bundle.parts().template(0).is_none())?;
+    check(bundle.open(whole).is_ok())?;
+    check(bundle.open(beginning).is_err())?;
+    check_eq(bundle.parts().bytes().len(), 494)?;
+    let base = bundle.parts().template(0).ok_or("no template")?;
+    check(base.name() == b"base")
+}
+
+#[test]
+fn keeps_what_is_open_where_it_refuses(rt: LibcRuntime) -> Result<(), Fail> {
+    let whole = base_line_cell(&rt)?;
+    let bytes = whole.as_slice();
+    check(bytes.len() == 494)?;
+    keeps(&mut Bundle::empty(), bytes, &bytes[0..493])
 }

@@ -24,7 +24,7 @@ use Rattle.causes.specs.declared.defect.Defect.{Defect}
 use Rattle.causes.proofs.Search.{first-defect-append, kept-none}
 use Rattle.bundle.specs.Decoded.{code}
 use Rattle.bundle.proofs.Kept.{clean}
-use Rattle.opening.specs.Opening.{code-shapes, All-stand, Opens, Lowest}
+use Rattle.opening.specs.Opening.{code-shapes, All-stand, Broken-code, Opens, Lowest}
 use Rattle.opening.proofs.Reading.{code-short, shapes-long}
 
 -- a bundle without causes 1 to 4 has no broken rule
@@ -61,7 +61,11 @@ module _ (b c : List ℕ) (n k : ℕ) (bytes : c ≡ b) (number : k ≡ n) (clea
   judged-stands U (Ok x) t never = as-told (λ xs. Judged xs (U xs) (Ok x)) t .stands
   judged-stands U (Err x) t never = absurd (never x refl)
 
-  -- one that was judged not to stand keeps the bundle from opening
-  pub judged-broken : Told (λ xs. length xs ≤ 1024 → Stands xs → ⊥) → All-stand b → ⊥
-  judged-broken t all =
-      as-told (λ xs. length xs ≤ 1024 → Stands xs → ⊥) t (omega (arith, code-short b n clean placed, shapes-long b n)) (all n placed)
+  -- one that was judged not to stand does not
+  pub judged-broken : Told (λ xs. length xs ≤ 1024 → Stands xs → ⊥) → Broken-code b n
+  judged-broken t =
+      (placed, as-told (λ xs. length xs ≤ 1024 → Stands xs → ⊥) t (omega (arith, code-short b n clean placed, shapes-long b n)))
+
+-- and keeps the bundle from opening
+pub broken-keeps : (b : List ℕ) (c : ℕ) → Broken-code b c → All-stand b → ⊥
+broken-keeps b c w all = w .1 (all c (w .0))

@@ -29,6 +29,10 @@ pub data Lowest (b : List ℕ) : ℕ → Type 0 where
   format : (cause b ≡ 0 → ⊥) → Lowest b (cause b)
   standing : cause b ≡ 0 → (All-stand b → ⊥) → Lowest b 5
 
+-- this code of the bundle does not stand
+abbrev pub Broken-code : List ℕ → ℕ → Type 0
+Broken-code b c = (c < records b Codes) × (Stands (code-shapes b c) → ⊥)
+
 -- The codes of the two bundles have the same instructions wherever a path of the first reaches; what no path reaches may
 -- differ.
 pub record Same-where-reached (b c : List ℕ) : Type 0 where

@@ -8,9 +8,9 @@ ghost use Rattle.layout.specs.declared.section.Section.the-variants.{Codes};
 ghost use Rattle.causes.specs.Causes.{cause as causeOf};
 ghost use Rattle.bundle.specs.View.{code-view};
 ghost use Rattle.standing.specs.Search.{Judged};
-ghost use Rattle.opening.specs.Opening.{code-shapes, All-stand, Lowest, Unreached-instructions-do-not-matter, empty-bundle};
+ghost use Rattle.opening.specs.Opening.{code-shapes, All-stand, Broken-code, Lowest, Unreached-instructions-do-not-matter, empty-bundle};
 ghost use Rattle.std.specs.Results.{Cases as ByOk};
-ghost use Rattle.opening.specs.Refusals.{number, cause-number, told};
+ghost use Rattle.opening.specs.Refusals.{number, cause-number, told, Shows, Shown};
 
 pub mod opened;
 pub mod refusal;
@@ -58,7 +58,7 @@ pub fn check_code(code: Code<'_>, table: &mut Table) -> Result<(), Broken>
 // The first code of the bundle that does not stand.
 fn first_broken(bundle: Examined<'_>) -> Option<BrokenCode>
     requires { ⌜ causeOf (now (bundle .layout .bytes)) ≡ 0 ⌝ }
-    ensures { λ r. ⌜ Cases r (All-stand (now (bundle .entry .layout .bytes))) (λ _. All-stand (now (bundle .entry .layout .bytes)) → ⊥) ⌝ }
+    ensures { λ r. ⌜ Cases r (All-stand (now (bundle .entry .layout .bytes))) (λ x. Broken-code (now (bundle .entry .layout .bytes)) (x .code)) ⌝ }
 {
     let mut table = Table::new();
     for number in 0..bundle.header().codes.count {
@@ -74,6 +74,7 @@ fn first_broken(bundle: Examined<'_>) -> Option<BrokenCode>
 // Why these bytes do not open as a bundle: the lowest of the causes 1 to 5, or none.
 pub fn refusal_of(bytes: &[u8]) -> Option<Refusal>
     ensures lowest { λ r. ⌜ Lowest (now (bytes .entry)) (number r) ⌝ }
+    ensures shown { λ r. ⌜ Shown (now (bytes .entry)) r ⌝ }
     ensures unreached { λ _. ⌜ Unreached-instructions-do-not-matter (now (bytes .entry)) ⌝ }
 {
     match examine(bytes) {
@@ -104,9 +105,20 @@ const EMPTY: [u8; 48] = [
 ];
 
 impl<'b> Bundle<'b> {
+    // The bundle that every record begins with.
+    pub fn empty() -> Bundle<'b>
+        ensures { λ r. ⌜ now (r .parts .layout .bytes) ≡ empty-bundle ⌝ }
+    {
+        match examine(&EMPTY) {
+            Ok(parts) => Bundle { parts },
+            Err(_) => unreachable(),
+        }
+    }
+
     // Opens these bytes in the place of what the bundle was. A refusal leaves it as it was.
     pub fn open(&mut self, bytes: &'b [u8]) -> Result<(), Refusal>
         ensures lowest { λ r. ⌜ Lowest (now (bytes .entry)) (told r) ⌝ }
+        ensures shown { λ r. ⌜ ByOk r (λ _. Unit {0}) (λ x. Shows (now (bytes .entry)) x) ⌝ }
         ensures after { λ r. ⌜ ByOk r (λ _. now (now (self .exit) .parts .layout .bytes) ≡ now (bytes .entry)) (λ _. now (self .exit) ≡ now (self .entry)) ⌝ }
     {
         match examine(bytes) {
@@ -125,18 +137,7 @@ impl<'b> Bundle<'b> {
     pub fn parts(&self) -> Examined<'b>
         ensures { λ r. ⌜ now (r .layout .bytes) ≡ now (now (self .entry) .parts .layout .bytes) ⌝ }
     {
-        self.parts
-    }
-}
-
-impl Bundle<'static> {
-    // The bundle that every record begins with.
-    pub fn empty() -> Bundle<'static>
-        ensures { λ r. ⌜ now (r .parts .layout .bytes) ≡ empty-bundle ⌝ }
-    {
-        match examine(&EMPTY) {
-            Ok(parts) => Bundle { parts },
-            Err(_) => unreachable(),
-        }
+        let parts = self.parts;
+        parts
     }
 }

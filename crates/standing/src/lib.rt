@@ -370,7 +370,9 @@ fn search(code: &[Shape], entries: &mut [Option<Entry>], pending: &mut [u32]) ->
 }
 
 impl Table {
-    pub fn new() -> Table {
+    pub fn new() -> Table
+        ensures { λ r. ⌜ r .entries ≡ replicate 1025 None ⌝ }
+    {
         Table { entries: [None; PLACES], pending: [0; PLACES] }
     }
 
