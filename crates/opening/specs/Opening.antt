@@ -51,3 +51,7 @@ empty-section = 0 ∷ 0 ∷ 0 ∷ 0 ∷ 48 ∷ 0 ∷ 0 ∷ 0 ∷ []
 
 abbrev pub empty-bundle : List ℕ
 empty-bundle = empty-section ++ (empty-section ++ (empty-section ++ (empty-section ++ (empty-section ++ empty-section))))
+
+-- a bundle has one lowest cause
+abbrev pub One-lowest-cause : List ℕ → Type 0
+One-lowest-cause b = (m n : ℕ) → Lowest b m → Lowest b n → m ≡ n

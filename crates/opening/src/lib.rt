@@ -8,7 +8,7 @@ ghost use Rattle.layout.specs.declared.section.Section.the-variants.{Codes};
 ghost use Rattle.causes.specs.Causes.{cause as causeOf};
 ghost use Rattle.bundle.specs.View.{code-view};
 ghost use Rattle.standing.specs.Search.{Judged};
-ghost use Rattle.opening.specs.Opening.{code-shapes, All-stand, Broken-code, Lowest, Unreached-instructions-do-not-matter, empty-bundle};
+ghost use Rattle.opening.specs.Opening.{code-shapes, All-stand, Broken-code, Lowest, One-lowest-cause, Unreached-instructions-do-not-matter, empty-bundle};
 ghost use Rattle.std.specs.Results.{Cases as ByOk};
 ghost use Rattle.opening.specs.Refusals.{number, cause-number, told, Shows, Shown};
 
@@ -75,6 +75,7 @@ fn first_broken(bundle: Examined<'_>) -> Option<BrokenCode>
 pub fn refusal_of(bytes: &[u8]) -> Option<Refusal>
     ensures lowest { λ r. ⌜ Lowest (now (bytes .entry)) (number r) ⌝ }
     ensures shown { λ r. ⌜ Shown (now (bytes .entry)) r ⌝ }
+    ensures one { λ _. ⌜ One-lowest-cause (now (bytes .entry)) ⌝ }
     ensures unreached { λ _. ⌜ Unreached-instructions-do-not-matter (now (bytes .entry)) ⌝ }
 {
     match examine(bytes) {

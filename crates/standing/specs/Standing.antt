@@ -25,7 +25,7 @@ stand h m = record { height = h; marks = m }
 abbrev pub mark : ℕ → MarkKind → ℕ → Mark
 mark i k h = record { place = i; kind = k; height = h }
 
--- nothing is taken from below the height at which the innermost mark opened
+-- operands below this are out of reach: it is where the innermost mark opened
 abbrev pub floor : List Mark → ℕ
 floor [] = 0
 floor (x ∷ m) = x .height

@@ -39,7 +39,7 @@ pub enum Shape {
 // Why an instruction cannot stand where a path brings it, or why what it leaves cannot stand.
 #[derive(Clone, Copy)]
 pub enum Reason {
-    // it takes an operand from below the height at which the innermost mark opened, or one that is not there
+    // it takes an operand that is not there, or that was there before the innermost mark opened
     TakesBelow,
     NoLoop,
     // the innermost mark is not the one that it closes

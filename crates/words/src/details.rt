@@ -14,6 +14,9 @@ use rules::first_load;
 use rules::same_bytes;
 use std::fmt;
 
+// How much of a name is shown.
+const MAX_SHOWN: usize = 60;
+
 #[derive(Clone, Copy)]
 pub enum Detail<'b> {
     Nothing,
@@ -32,12 +35,21 @@ pub impl fmt::Display for Detail<'_> as DetailDisplay {
             Detail::Nothing => Ok(()),
             Detail::Number(number) => write!(f, ": {number}"),
             Detail::Code(number) => write!(f, ": code {number}"),
-            Detail::Name(name) => write!(f, ": \"{}\"", Escaped(name)),
+            Detail::Name(name) => show_name(f, name),
             Detail::Start { section, offset } => write!(f, ": {} at byte {offset}", section_name(section)),
             Detail::Field { name, value } => write!(f, ": {name} is {value}"),
             Detail::Jump { place, target } => write!(f, ": that at place {place} goes to {target}"),
             Detail::Load { code, place } => write!(f, ": at place {place} of code {code}"),
         }
+    }
+}
+
+// A name, or the beginning of a long one.
+fn show_name<W: fmt::Write>(f: &mut fmt::Formatter<W>, name: &[u8]) -> fmt::Result {
+    if name.len() <= MAX_SHOWN {
+        write!(f, ": \"{}\"", Escaped(name))
+    } else {
+        write!(f, ": \"{}..\" ({} bytes)", Escaped(&name[0..MAX_SHOWN]), name.len())
     }
 }
 
@@ -52,7 +64,7 @@ fn section_name(section: Section) -> &'static str {
     }
 }
 
-pub fn detail_of<'b>(layout: Layout<'b>, defect: Defect) -> Detail<'b> {
+pub(super) fn detail_of<'b>(layout: Layout<'b>, defect: Defect) -> Detail<'b> {
     match defect.rule {
         Rule::Record(rule) => detail_of_record(layout, rule, defect.record),
         Rule::Owner(_) => Detail::Nothing,
