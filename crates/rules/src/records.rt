@@ -114,8 +114,8 @@ fn is_load(layout: Layout<'_>, number: u32, place: u32) -> bool
 pub fn first_load(layout: Layout<'_>, number: u32) -> Option<u32>
     ensures { λ r. ⌜ r ≡ first-not (code (now (layout .entry .bytes)) number .«instruction_count») (λ k. not (loadsAt (now (layout .entry .bytes)) number k)) ⌝ }
 {
-    let count = layout.code(number).instruction_count;
-    for place in 0..count {
+    let len = layout.code(number).instruction_count;
+    for place in 0..len {
         if is_load(layout, number, place) {
             return Some(place);
         }

@@ -11,11 +11,11 @@ loop-place-again c =
 
 pub returns-then-is-load : need.returns-then-is-load
 returns-then-is-load c =
-    stops-at (λ k. not (loads (c .args .layout .bytes .now) (c .args .number) k)) (c .code-count .result .«instruction_count») _ (c .loop-place .place)
-    (ap (λ (r : CodeRecord). r .«instruction_count») (c .code-count .ensures)) (c .loop-place-test .taken) (c .loop-place .inv)
+    stops-at (λ k. not (loads (c .args .layout .bytes .now) (c .args .number) k)) (c .code-len .result .«instruction_count») _ (c .loop-place .place)
+    (ap (λ (r : CodeRecord). r .«instruction_count») (c .code-len .ensures)) (c .loop-place-test .taken) (c .loop-place .inv)
     (ap not (sym (c .is-load .ensures) ∙ c .if-is-load .taken))
 
 pub returns : need.returns
 returns c =
-    runs-out (λ k. not (loads (c .args .layout .bytes .now) (c .args .number) k)) (c .code-count .result .«instruction_count») _ (c .loop-place .place)
-    (ap (λ (r : CodeRecord). r .«instruction_count») (c .code-count .ensures)) (c .loop-place-test .left) (c .loop-place .inv)
+    runs-out (λ k. not (loads (c .args .layout .bytes .now) (c .args .number) k)) (c .code-len .result .«instruction_count») _ (c .loop-place .place)
+    (ap (λ (r : CodeRecord). r .«instruction_count») (c .code-len .ensures)) (c .loop-place-test .left) (c .loop-place .inv)
