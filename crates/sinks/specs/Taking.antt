@@ -5,8 +5,8 @@ use lib.ListN.{length, take, drop}
 use lib.Dec.{leb}
 use Rattle.std.specs.shelf.Text.{sameBytes}
 
--- What a sink means: the text taken, and a fixed rule that says, for the text taken so far,
--- which next piece is accepted.
+-- The meaning of a sink. Its rule never changes, and tells from the text so far and a piece whether that piece may
+-- come next.
 pub record Taking : Type 0 where
   pub text : List ℕ
   pub rule : List ℕ → List ℕ → Bool

@@ -19,8 +19,8 @@ pub enum Refused {
     Piece,
 }
 
-/// Takes text piece by piece. What a sink means is the text taken so far and a fixed rule that says
-/// which next piece it accepts; the empty piece is always accepted.
+/// Gets text piece by piece. It is known by the text that it has, and by a rule for the pieces that may follow; no rule
+/// turns the empty piece away.
 pub trait Sink {
     ghost meaning: { Self → Taking };
 
