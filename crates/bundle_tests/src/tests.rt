@@ -93,7 +93,17 @@ fn answers_each_cause_beside_a_neighbour(rt: LibcRuntime) -> Result<(), Fail> {
 
 fn text_only(rt: &LibcRuntime, length: usize) -> Result<Vec<u8>, Fail> {
     let text = vec![in rt.alloc(); 0; length]?;
-    assemble(rt, &Parts { templates: &[], blocks: &[], codes: &[], instructions: &[], constants: &[], text: &text })
+    assemble(
+        rt,
+        &Parts {
+            templates: &[],
+            blocks: &[],
+            codes: &[],
+            instructions: &[],
+            constants: &[],
+            text: &text,
+        },
+    )
 }
 
 #[test]

@@ -23,8 +23,8 @@ preceded-more xs b (Some ys) = ap (λ (l : List ℕ). Some l) (sym (append-assoc
 
 -- one turn: the first two digits are read
 pub line-bytes-more : (rest xs : List ℕ) (b : ℕ) → 2 ≤ length rest → byte-of (getD rest 0 0) (getD rest 1 0) ≡ Some b
-  → preceded xs (line-bytes rest) ≡ preceded (xs ++ b ∷ []) (line-bytes (drop 2 rest))
+    → preceded xs (line-bytes rest) ≡ preceded (xs ++ b ∷ []) (line-bytes (drop 2 rest))
 line-bytes-more [] xs b h e = absurd (omega arith)
 line-bytes-more (x ∷ []) xs b h e = absurd (omega arith)
 line-bytes-more (x ∷ y ∷ rest) xs b h e =
-  ap (λ (o : Option ℕ). preceded xs (before o (line-bytes rest))) e ∙ preceded-more xs b (line-bytes rest)
+    ap (λ (o : Option ℕ). preceded xs (before o (line-bytes rest))) e ∙ preceded-more xs b (line-bytes rest)

@@ -13,11 +13,11 @@ hex-digit v = cond (ltb v 10) (48 + v) (87 + v)
 -- and the others are a backslash, an x and two digits
 abbrev pub escaped-byte : ℕ → List ℕ
 escaped-byte b =
-  cond (eqb b 10) (92 ∷ 110 ∷ [])
-  (cond (eqb b 9) (92 ∷ 116 ∷ [])
-  (cond (eqb b 92) (92 ∷ 92 ∷ [])
-  (cond (eqb b 34) (92 ∷ 34 ∷ [])
-  (cond (leb 32 b && leb b 126) (b ∷ []) (92 ∷ 120 ∷ hex-digit (b / 16) ∷ hex-digit (b % 16) ∷ [])))))
+    cond (eqb b 10) (92 ∷ 110 ∷ [])
+    (cond (eqb b 9) (92 ∷ 116 ∷ [])
+    (cond (eqb b 92) (92 ∷ 92 ∷ [])
+    (cond (eqb b 34) (92 ∷ 34 ∷ [])
+    (cond (leb 32 b && leb b 126) (b ∷ []) (92 ∷ 120 ∷ hex-digit (b / 16) ∷ hex-digit (b % 16) ∷ [])))))
 
 abbrev pub escaped : List ℕ → List ℕ
 escaped bs = joined escaped-byte bs

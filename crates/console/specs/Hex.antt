@@ -9,9 +9,9 @@ use Rattle.std.specs.declared.option.Option.the-variants.{Some, None}
 -- the value of a digit: '0' to '9', 'a' to 'f', 'A' to 'F'
 abbrev pub digit-value : ℕ → Option ℕ
 digit-value d =
-  cond (leb 48 d && leb d 57) (Some (d - 48))
-  (cond (leb 97 d && leb d 102) (Some (d - 87))
-  (cond (leb 65 d && leb d 70) (Some (d - 55)) None))
+    cond (leb 48 d && leb d 57) (Some (d - 48))
+    (cond (leb 97 d && leb d 102) (Some (d - 87))
+    (cond (leb 65 d && leb d 70) (Some (d - 55)) None))
 
 -- two digits write a byte
 abbrev pub byte-from : Option ℕ → Option ℕ → Option ℕ

@@ -5,7 +5,6 @@ ghost use Rattle.std.specs.declared.option.Option.the-variants.{Some};
 ghost use Rattle.std.specs.Of.String.{string-bytes};
 ghost use Rattle.std.specs.Vec.{made};
 ghost use Rattle.console.specs.Escape.{hex-digit, escaped-byte, escaped};
-
 use std::alloc::AllocError;
 use std::alloc::Global;
 use std::fmt;
@@ -14,7 +13,11 @@ fn hex_digit(value: u8) -> char
     requires { ⌜ value < 16 ⌝ }
     ensures { λ r. ⌜ r ≡ hex-digit value ⌝ }
 {
-    if value < 10 { (b'0' + value) as char } else { (b'a' + (value - 10)) as char }
+    if value < 10 {
+        (b'0' + value) as char
+    } else {
+        (b'a' + (value - 10)) as char
+    }
 }
 
 // A byte as it is written inside quotes.

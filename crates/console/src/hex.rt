@@ -4,7 +4,6 @@ ghost use Rattle.std.specs.Options.{mapped};
 ghost use Rattle.std.specs.Of.Vec as Vecs;
 ghost use Rattle.std.specs.Vec.{made};
 ghost use Rattle.console.specs.Hex.{digit-value, byte-of, line-bytes};
-
 use std::alloc::AllocError;
 use std::alloc::Global;
 
@@ -43,5 +42,9 @@ pub fn bytes_of_line(heap: Global, line: &[u8]) -> Result<Option<Vec<u8>>, Alloc
         }
         rest = tail;
     }
-    if rest.is_empty() { Ok(Some(bytes)) } else { Ok(None) }
+    if rest.is_empty() {
+        Ok(Some(bytes))
+    } else {
+        Ok(None)
+    }
 }

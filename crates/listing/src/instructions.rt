@@ -69,7 +69,10 @@ fn name(instruction: Instruction<'_>) -> &'static str {
     }
 }
 
-fn show_operands<W: fmt::Write>(f: &mut fmt::Formatter<W>, instruction: Instruction<'_>) -> fmt::Result {
+fn show_operands<W: fmt::Write>(
+    f: &mut fmt::Formatter<W>,
+    instruction: Instruction<'_>,
+) -> fmt::Result {
     match instruction {
         Instruction::EmitRaw(text) => show_text(f, text),
         Instruction::StoreLocal(name) => show_text(f, name),
@@ -80,7 +83,11 @@ fn show_operands<W: fmt::Write>(f: &mut fmt::Formatter<W>, instruction: Instruct
         Instruction::BuildList(count) => write!(f, " {count}"),
         Instruction::ApplyFilter(name, count, local) => show_cached(f, name, count, local),
         Instruction::PerformTest(name, count, local) => show_cached(f, name, count, local),
-        Instruction::CallFunction(name, count) => write!(f, " \"{}\" arguments {count}", Escaped(name)),
+        Instruction::CallFunction(name, count) => write!(
+            f,
+            " \"{}\" arguments {count}",
+            Escaped(name)
+        ),
         Instruction::PushLoop(flags) => f.write_str(flag_words(flags)),
         Instruction::Iterate(target) => write!(f, " -> {target}"),
         Instruction::Jump(target) => write!(f, " -> {target}"),
@@ -105,7 +112,12 @@ fn show_constant<W: fmt::Write>(f: &mut fmt::Formatter<W>, constant: Constant<'_
     }
 }
 
-fn show_cached<W: fmt::Write>(f: &mut fmt::Formatter<W>, name: &[u8], count: u16, local: LocalId) -> fmt::Result {
+fn show_cached<W: fmt::Write>(
+    f: &mut fmt::Formatter<W>,
+    name: &[u8],
+    count: u16,
+    local: LocalId,
+) -> fmt::Result {
     write!(f, " \"{}\" arguments {count}", Escaped(name))?;
     match local.slot() {
         Some(slot) => write!(f, " slot {slot}"),

@@ -54,11 +54,20 @@ fn show_header<W: fmt::Write>(f: &mut fmt::Formatter<W>, header: Header) -> fmt:
     show_extent(f, "text", header.text)
 }
 
-fn show_extent<W: fmt::Write>(f: &mut fmt::Formatter<W>, name: &str, extent: Extent) -> fmt::Result {
+fn show_extent<W: fmt::Write>(
+    f: &mut fmt::Formatter<W>,
+    name: &str,
+    extent: Extent,
+) -> fmt::Result {
     writeln!(f, "  {name:<12} {:>6}  {:>6}", extent.count, extent.offset)
 }
 
-fn show_template<W: fmt::Write>(f: &mut fmt::Formatter<W>, number: u32, template: Template<'_>, table: &mut Table) -> fmt::Result {
+fn show_template<W: fmt::Write>(
+    f: &mut fmt::Formatter<W>,
+    number: u32,
+    template: Template<'_>,
+    table: &mut Table,
+) -> fmt::Result {
     let main = template.main();
     writeln!(f)?;
     writeln!(f, "template {number} \"{}\"", Escaped(template.name()))?;
@@ -66,21 +75,44 @@ fn show_template<W: fmt::Write>(f: &mut fmt::Formatter<W>, number: u32, template
     show_code(f, main, table)?;
     for place in 0..template.block_count() {
         if let Some(block) = template.block(place) {
-            show_block(f, template.raw.first_block as u64 + place as u64, block, table)?;
+            show_block(
+                f,
+                template.raw.first_block as u64 + place as u64,
+                block,
+                table,
+            )?;
         }
     }
     Ok(())
 }
 
-fn show_block<W: fmt::Write>(f: &mut fmt::Formatter<W>, number: u64, block: Block<'_>, table: &mut Table) -> fmt::Result {
+fn show_block<W: fmt::Write>(
+    f: &mut fmt::Formatter<W>,
+    number: u64,
+    block: Block<'_>,
+    table: &mut Table,
+) -> fmt::Result {
     let code = block.code();
-    let required = if code.is_required_block() { ", required" } else { "" };
-    writeln!(f, "  block {number} \"{}\", code {}{required}", Escaped(block.name()), code.number)?;
+    let required = if code.is_required_block() {
+        ", required"
+    } else {
+        ""
+    };
+    writeln!(
+        f,
+        "  block {number} \"{}\", code {}{required}",
+        Escaped(block.name()),
+        code.number
+    )?;
     show_code(f, code, table)
 }
 
 // The instructions of a code, each with the operands and the open marks that paths bring to it.
-fn show_code<W: fmt::Write>(f: &mut fmt::Formatter<W>, code: Code<'_>, table: &mut Table) -> fmt::Result {
+fn show_code<W: fmt::Write>(
+    f: &mut fmt::Formatter<W>,
+    code: Code<'_>,
+    table: &mut Table,
+) -> fmt::Result {
     let _ = check_code(code, table);
     for place in 0..code.len() {
         match table.entry(place) {
@@ -100,7 +132,12 @@ fn show_code<W: fmt::Write>(f: &mut fmt::Formatter<W>, code: Code<'_>, table: &m
 }
 
 // The open marks at a place, the innermost first.
-fn show_marks<W: fmt::Write>(f: &mut fmt::Formatter<W>, code: Code<'_>, place: u32, table: &Table) -> fmt::Result {
+fn show_marks<W: fmt::Write>(
+    f: &mut fmt::Formatter<W>,
+    code: Code<'_>,
+    place: u32,
+    table: &Table,
+) -> fmt::Result {
     let mut inner = inner_mark(table, place);
     for _ in 0..MAX_MARKS {
         let Some(opened) = inner else {

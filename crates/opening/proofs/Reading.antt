@@ -43,7 +43,7 @@ some-nth (x ∷ xs) (suc k) l e = some-nth xs k (omega arith) e
 pub code-short : (b : List ℕ) (c : ℕ) → cause b ≡ 0 → c < layout.records b Codes → length (code b c .steps) ≤ 1024
 code-short b c h l =
     let few : layout.code b c .«instruction_count» ≤ 1024 =
-        leb-true _ 1024 (keeps-at b (Record CodeLength) c (kept-at b field-rules 0 (Record CodeLength) (clean b h .fields) (omega arith)) l) in
+    leb-true _ 1024 (keeps-at b (Record CodeLength) c (kept-at b field-rules 0 (Record CodeLength) (clean b h .fields) (omega arith)) l) in
     omega (arith, length-listed (λ k. step b (layout.code b c .«first_instruction» + k)) (layout.code b c .«instruction_count»))
 
 pub shapes-long : (b : List ℕ) (c : ℕ) → length (code-shapes b c) ≡ length (code b c .steps)
@@ -56,6 +56,6 @@ all-read b c n xs e l h =
     let t : length (take n xs) ≡ n = length-take-le n xs l in
     same-lists (take n xs) (code-shapes b c) (t ∙ e ∙ sym (shapes-long b c))
     (λ k d m.
-      let w : k < n = omega arith in
-      getD-take n xs k d w ∙ getD-default xs k d (Plain 0 0) (omega arith) ∙ h k w
-      ∙ getD-default (code-shapes b c) k (Plain 0 0) d (omega (arith, shapes-long b c)))
+    let w : k < n = omega arith in
+    getD-take n xs k d w ∙ getD-default xs k d (Plain 0 0) (omega arith) ∙ h k w
+    ∙ getD-default (code-shapes b c) k (Plain 0 0) d (omega (arith, shapes-long b c)))

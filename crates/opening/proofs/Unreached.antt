@@ -41,23 +41,26 @@ module _ (c d : List Shape) (long : length c ≡ length d) (alike : (k : ℕ) (s
 
   forward : Stands c → Stands d
   forward h = record {
-      same = λ i s t r q. h .same i s t (back r) (back q);
-      fine = λ i s r l. subst (λ (x : Shape). broken x s ≡ None) (alike i s (back r)) (h .fine i s (back r) (omega (arith, long)));
-      inside = λ i s r. omega (arith, h .inside i s (back r), long);
-      small = λ i s r. h .small i s (back r);
-      ended = λ s r. h .ended s (subst (λ n. Reach c n s) (sym long) (back r)) }
+    same = λ i s t r q. h .same i s t (back r) (back q);
+    fine = λ i s r l. subst (λ (x : Shape). broken x s ≡ None) (alike i s (back r)) (h .fine i s (back r) (omega (arith, long)));
+    inside = λ i s r. omega (arith, h .inside i s (back r), long);
+    small = λ i s r. h .small i s (back r);
+    ended = λ s r. h .ended s (subst (λ n. Reach c n s) (sym long) (back r));
+  }
 
   backward : Stands d → Stands c
   backward h = record {
-      same = λ i s t r q. h .same i s t (there r) (there q);
-      fine = λ i s r l. subst (λ (x : Shape). broken x s ≡ None) (sym (alike i s r)) (h .fine i s (there r) (omega (arith, long)));
-      inside = λ i s r. omega (arith, h .inside i s (there r), long);
-      small = λ i s r. h .small i s (there r);
-      ended = λ s r. h .ended s (subst (λ n. Reach d n s) long (there r)) }
+    same = λ i s t r q. h .same i s t (there r) (there q);
+    fine = λ i s r l. subst (λ (x : Shape). broken x s ≡ None) (sym (alike i s r)) (h .fine i s (there r) (omega (arith, long)));
+    inside = λ i s r. omega (arith, h .inside i s (there r), long);
+    small = λ i s r. h .small i s (there r);
+    ended = λ s r. h .ended s (subst (λ n. Reach d n s) long (there r));
+  }
 
 pub unreached : (b : List ℕ) → Unreached-instructions-do-not-matter b
-unreached b c h =
-    (λ all i l.
+unreached b c h = (
+  λ all i l.
       let m : i < records b Codes = omega (arith, h .number) in
       forward (code-shapes b i) (code-shapes c i) (h .long i m) (h .alike i m) (all i m),
-      λ all i l. backward (code-shapes b i) (code-shapes c i) (h .long i l) (h .alike i l) (all i (omega (arith, h .number))))
+  λ all i l. backward (code-shapes b i) (code-shapes c i) (h .long i l) (h .alike i l) (all i (omega (arith, h .number))),
+)

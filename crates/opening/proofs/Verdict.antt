@@ -52,8 +52,8 @@ module _ (b c : List ℕ) (n k : ℕ) (bytes : c ≡ b) (number : k ≡ n) (clea
   as-told P t =
       subst (λ m. P (code-shapes b m)) number
       (subst (λ (x : List ℕ). P (code-shapes x k)) bytes
-        (t (subst (λ (x : List ℕ). cause x ≡ 0) (sym bytes) clean)
-          (subst (λ (x : List ℕ). k < records x Codes) (sym bytes) (subst (λ m. m < records b Codes) (sym number) placed))))
+      (t (subst (λ (x : List ℕ). cause x ≡ 0) (sym bytes) clean)
+      (subst (λ (x : List ℕ). k < records x Codes) (sym bytes) (subst (λ m. m < records b Codes) (sym number) placed))))
 
   -- a code that was judged to stand does
   pub judged-stands : (U : List Shape → List (Option Entry)) (r : Result (Unit {0}) Broken) → Told (λ xs. Judged xs (U xs) r)

@@ -48,7 +48,10 @@ pub fn check_code(code: Code<'_>, table: &mut Table) -> Result<(), Broken>
 {
     let count = code.len();
     if count as usize > MAX_CODE {
-        return Err(Broken { place: 0, reason: Reason::TooLong });
+        return Err(Broken {
+            place: 0,
+            reason: Reason::TooLong,
+        });
     }
     let mut shapes = [Shape::Plain { takes: 0, gives: 0 }; MAX_CODE];
     read_shapes(code, count, &mut shapes);
@@ -64,7 +67,10 @@ fn first_broken(bundle: Examined<'_>) -> Option<BrokenCode>
     for number in 0..bundle.header().codes.count {
         if let Some(code) = bundle.code(number) {
             if let Err(broken) = check_code(code, &mut table) {
-                return Some(BrokenCode { code: number, broken });
+                return Some(BrokenCode {
+                    code: number,
+                    broken,
+                });
             }
         }
     }
@@ -101,8 +107,54 @@ impl Refusal {
 
 // The bundle of no templates: a header in which every section is empty.
 const EMPTY: [u8; 48] = [
-    0, 0, 0, 0, 48, 0, 0, 0, 0, 0, 0, 0, 48, 0, 0, 0, 0, 0, 0, 0, 48, 0, 0, 0, 0, 0, 0, 0, 48, 0, 0, 0, 0, 0, 0, 0, 48, 0, 0, 0, 0, 0,
-    0, 0, 48, 0, 0, 0,
+    0,
+    0,
+    0,
+    0,
+    48,
+    0,
+    0,
+    0,
+    0,
+    0,
+    0,
+    0,
+    48,
+    0,
+    0,
+    0,
+    0,
+    0,
+    0,
+    0,
+    48,
+    0,
+    0,
+    0,
+    0,
+    0,
+    0,
+    0,
+    48,
+    0,
+    0,
+    0,
+    0,
+    0,
+    0,
+    0,
+    48,
+    0,
+    0,
+    0,
+    0,
+    0,
+    0,
+    0,
+    48,
+    0,
+    0,
+    0,
 ];
 
 impl<'b> Bundle<'b> {

@@ -2,7 +2,6 @@ ghost use mathlib.Core.Path.{_≡_};
 ghost use denote.Ref.{now as held};
 ghost use Rattle.causes.specs.Causes.{cause};
 ghost use Rattle.opening.specs.Opening.{All-stand};
-
 use bundle::view::Examined;
 
 // A bundle that opens: it has none of the causes 1 to 5.

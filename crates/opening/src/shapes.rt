@@ -2,7 +2,6 @@
 ghost use mathlib.Core.Path.{_≡_};
 ghost use Rattle.instruction.specs.Seen.{instruction-seen};
 ghost use Rattle.opening.specs.Shapes.{shape};
-
 use instruction::instructions::Instruction;
 use standing::shape::MarkKind;
 use standing::shape::Shape;
@@ -20,7 +19,10 @@ pub fn shape_of(instruction: Instruction<'_>) -> Shape
         Instruction::GetAttr(_) => Shape::Plain { takes: 1, gives: 1 },
         Instruction::GetItem => Shape::Plain { takes: 2, gives: 1 },
         Instruction::LoadConst(_) => Shape::Plain { takes: 0, gives: 1 },
-        Instruction::BuildList(count) => Shape::Plain { takes: count, gives: 1 },
+        Instruction::BuildList(count) => Shape::Plain {
+            takes: count,
+            gives: 1,
+        },
         Instruction::Add => Shape::Plain { takes: 2, gives: 1 },
         Instruction::Sub => Shape::Plain { takes: 2, gives: 1 },
         Instruction::Mul => Shape::Plain { takes: 2, gives: 1 },
@@ -38,11 +40,25 @@ pub fn shape_of(instruction: Instruction<'_>) -> Shape
         Instruction::Not => Shape::Plain { takes: 1, gives: 1 },
         Instruction::StringConcat => Shape::Plain { takes: 2, gives: 1 },
         Instruction::In => Shape::Plain { takes: 2, gives: 1 },
-        Instruction::ApplyFilter(_, count, _) => Shape::Plain { takes: count, gives: 1 },
-        Instruction::PerformTest(_, count, _) => Shape::Plain { takes: count, gives: 1 },
+        Instruction::ApplyFilter(_, count, _) => Shape::Plain {
+            takes: count,
+            gives: 1,
+        },
+        Instruction::PerformTest(_, count, _) => Shape::Plain {
+            takes: count,
+            gives: 1,
+        },
         Instruction::Emit => Shape::Plain { takes: 1, gives: 0 },
-        Instruction::PushLoop(flags) => Shape::Opens { kind: MarkKind::Loop { recursive: flags >= LOOP_FLAG_RECURSIVE }, takes: 1 },
-        Instruction::PushWith => Shape::Opens { kind: MarkKind::Scope, takes: 0 },
+        Instruction::PushLoop(flags) => Shape::Opens {
+            kind: MarkKind::Loop {
+                recursive: flags >= LOOP_FLAG_RECURSIVE,
+            },
+            takes: 1,
+        },
+        Instruction::PushWith => Shape::Opens {
+            kind: MarkKind::Scope,
+            takes: 0,
+        },
         Instruction::Iterate(target) => Shape::Turn { target },
         Instruction::PushDidNotIterate => Shape::Inside,
         Instruction::PopFrame => Shape::EndsScope,
@@ -51,9 +67,15 @@ pub fn shape_of(instruction: Instruction<'_>) -> Shape
         Instruction::JumpIfFalse(target) => Shape::Branch { target, gives: 0 },
         Instruction::JumpIfFalseOrPop(target) => Shape::Branch { target, gives: 1 },
         Instruction::JumpIfTrueOrPop(target) => Shape::Branch { target, gives: 1 },
-        Instruction::BeginCapture(_) => Shape::Opens { kind: MarkKind::Capture, takes: 0 },
+        Instruction::BeginCapture(_) => Shape::Opens {
+            kind: MarkKind::Capture,
+            takes: 0,
+        },
         Instruction::EndCapture => Shape::EndsCapture,
-        Instruction::CallFunction(_, count) => Shape::Plain { takes: count, gives: 1 },
+        Instruction::CallFunction(_, count) => Shape::Plain {
+            takes: count,
+            gives: 1,
+        },
         Instruction::DupTop => Shape::Plain { takes: 1, gives: 2 },
         Instruction::DiscardTop => Shape::Plain { takes: 1, gives: 0 },
         Instruction::FastSuper => Shape::Plain { takes: 0, gives: 0 },

@@ -48,9 +48,9 @@ module _ (xs ys : List ℕ) (n : ℕ) (h : n ≤ length xs) where
   continues-not k =
       ⊎-elim
       (λ e.
-        let u = ap length (sameBytes-decides _ ys .0 e) in
-        let v = simp (length-take, length-drop) at u in
-        absurd (omega (arith, v)))
+      let u = ap length (sameBytes-decides _ ys .0 e) in
+      let v = simp (length-take, length-drop) at u in
+      absurd (omega (arith, v)))
       (λ e. e)
       (cases-bool (continues xs (take n xs) ys))
 

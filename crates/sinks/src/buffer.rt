@@ -8,9 +8,9 @@ ghost use denote.Ref.{now as held};
 ghost use Rattle.sinks.specs.Taking.{Taking, accepts, offered, fits, buffering};
 ghost use Rattle.sinks.specs.Answers.{told};
 ghost use Rattle.sinks.specs.Empty.{fits-empty};
-
+use crate::Refused;
+use crate::Sink;
 use crate::room::Room;
-use crate::{Refused, Sink};
 
 /// Accepts every piece that still fits; the bytes past the text taken are never touched.
 #[derive(Drop)]
@@ -26,7 +26,10 @@ impl<'a> BufferSink<'a> {
         ensures taken { λ r. ⌜ buffering (r .len) (held (r .room .bytes)) ≡ record { text = []; rule = fits (length (now (out .entry))) } ⌝ }
         ensures lent { λ r. ⌜ held (r .room .bytes) ≡ now (out .entry) ⌝ }
     {
-        BufferSink { room: Room::new(out), len: 0 }
+        BufferSink {
+            room: Room::new(out),
+            len: 0,
+        }
     }
 
     /// The text taken.

@@ -5,9 +5,9 @@ ghost use mathlib.Core.List.{List, []};
 ghost use Rattle.sinks.specs.Taking.{Taking, accepts, offered};
 ghost use Rattle.sinks.specs.Answers.{told};
 
-mod room;
 mod buffer;
 mod matching;
+mod room;
 
 pub use buffer::BufferSink;
 pub use matching::MatchingSink;

@@ -8,8 +8,8 @@ ghost use denote.Ref.{now as held};
 ghost use Rattle.sinks.specs.Taking.{Taking, continues, matching};
 ghost use Rattle.sinks.specs.Empty.{continues-empty};
 ghost use Rattle.std.specs.shelf.Text.{sameBytes};
-
-use crate::{Refused, Sink};
+use crate::Refused;
+use crate::Sink;
 
 /// Accepts every piece that continues the expected text.
 #[derive(Drop)]

@@ -52,8 +52,8 @@ module _ (code : List Shape) (u : List (Option Entry)) where
       let d : p .height ≡ r .height = ap (λ (z : Entry). z .height) b in
       let t : m ≡ n = same-marks m n (o .1) (q .1) (ap (λ (z : Entry). z .inner) b) in
       let f : x ≡ y =
-          same-some x y (p .is)
-          (ap (λ (z : ℕ). opens-mark z (shape-at code z) (p .height)) a ∙ ap (opens-mark (y .place) (shape-at code (y .place))) d ∙ r .is) in
+      same-some x y (p .is)
+      (ap (λ (z : ℕ). opens-mark z (shape-at code z) (p .height)) a ∙ ap (opens-mark (y .place) (shape-at code (y .place))) d ∙ r .is) in
       ap (λ z. z ∷ m) f ∙ ap (λ z. y ∷ z) t
     where
       numbers : (i j : ℕ) → Some i ≡ Some j → i ≡ j
@@ -161,10 +161,14 @@ module _ (code : List Shape) (u : List (Option Entry)) where
       → item u (next-place (shape-at code i) i) ≡ Some (next-entry u (shape-at code i) i (kept-of s))
       → Represents code u (next-place (shape-at code i) i) (next (shape-at code i) i s)
   next-represents i s r e = record {
-      there = e ∙ ap Some (next-same (shape-at code i) i s (r .opened)); opened = next-opened i s r (shape-at code i) refl }
+    there = e ∙ ap Some (next-same (shape-at code i) i s (r .opened));
+    opened = next-opened i s r (shape-at code i) refl;
+  }
 
   pub other-represents : (i : ℕ) (s : Standing) → Represents code u i s
       → item u (other-place (shape-at code i) i) ≡ Some (other-entry u (shape-at code i) i (kept-of s))
       → Represents code u (other-place (shape-at code i) i) (other (shape-at code i) i s)
   other-represents i s r e = record {
-      there = e ∙ ap Some (other-same (shape-at code i) i s (r .opened)); opened = other-opened i s r (shape-at code i) refl }
+    there = e ∙ ap Some (other-same (shape-at code i) i s (r .opened));
+    opened = other-opened i s r (shape-at code i) refl;
+  }

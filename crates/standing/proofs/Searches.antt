@@ -75,13 +75,16 @@ within n j e h =
     let c = unless-none (leb (e .depth) 16) _ _ (b .1) in
     let d = last-none (not (eqb j n) || (eqb (e .height) 0 && eqb (e .depth) 0)) _ (c .1) in
     record {
-      inside = leb-true j n (a .0); low = leb-true (e .height) 64 (b .0); few = leb-true (e .depth) 16 (c .0);
+      inside = leb-true j n (a .0);
+      low = leb-true (e .height) 64 (b .0);
+      few = leb-true (e .depth) 16 (c .0);
       ended = λ s. ⊎-elim
-        (λ (m : not (eqb j n) ≡ true). absurd (both-ways (eqb j n) (not-true (eqb j n) m) (eq-eqb j n s)))
-        (λ (m : (eqb (e .height) 0 && eqb (e .depth) 0) ≡ true).
+          (λ (m : not (eqb j n) ≡ true). absurd (both-ways (eqb j n) (not-true (eqb j n) m) (eq-eqb j n s)))
+          (λ (m : (eqb (e .height) 0 && eqb (e .depth) 0) ≡ true).
           let w = and-parts (eqb (e .height) 0) (eqb (e .depth) 0) m in
           (eqb-true (e .height) 0 (w .0), eqb-true (e .depth) 0 (w .1)))
-        (or-cases (not (eqb j n)) (eqb (e .height) 0 && eqb (e .depth) 0) d) }
+          (or-cases (not (eqb j n)) (eqb (e .height) 0 && eqb (e .depth) 0) d);
+    }
 
 limits-none : (n j : ℕ) (e : Entry) → j ≤ n → e .height ≤ 64 → e .depth ≤ 16 → (j ≡ n → (e .height ≡ 0) × (e .depth ≡ 0)) → limits n j e ≡ None
 limits-none n j e a b c d =
@@ -90,11 +93,11 @@ limits-none n j e a b c d =
     let c′ : leb (e .depth) 16 ≡ true = le-leb (e .depth) 16 c in
     ⊎-elim
     (λ (s : j ≡ n).
-      let w = d s in
-      let x : eqb (e .height) 0 ≡ true = eq-eqb (e .height) 0 (w .0) in
-      let y : eqb (e .depth) 0 ≡ true = eq-eqb (e .depth) 0 (w .1) in
-      let z : eqb j n ≡ true = eq-eqb j n s in
-      simp (a′, b′, c′, z, x, y))
+    let w = d s in
+    let x : eqb (e .height) 0 ≡ true = eq-eqb (e .height) 0 (w .0) in
+    let y : eqb (e .depth) 0 ≡ true = eq-eqb (e .depth) 0 (w .1) in
+    let z : eqb j n ≡ true = eq-eqb j n s in
+    simp (a′, b′, c′, z, x, y))
     (λ (m : j ≡ n → ⊥). let z : eqb j n ≡ false = ne-eqb j n m in simp (a′, b′, c′, z))
     (cases-eq j n)
 
@@ -104,8 +107,8 @@ stands-limits code h j t r =
     let l = h .small j t r in
     limits-none (length code) j (kept-of t) (h .inside j t r) (l .0) (l .1)
     (λ s.
-      let e : t ≡ stand 0 [] = h .ended t (subst (λ n. Reach code n t) s r) in
-      (ap (λ (x : Standing). x .height) e, ap (λ (x : Standing). length (x .marks)) e))
+    let e : t ≡ stand 0 [] = h .ended t (subst (λ n. Reach code n t) s r) in
+    (ap (λ (x : Standing). x .height) e, ap (λ (x : Standing). length (x .marks)) e))
 
 done-grows : (code : List Shape) (u v : List (Option Entry)) (i : ℕ) (s : Standing) → Grows u v → Represents code u i s → Done code u i → Done code v i
 done-grows code u v i s g r d t q =
@@ -113,7 +116,7 @@ done-grows code u v i s g r d t q =
     let w = d s r in
     subst
     (λ (x : Standing). (broken (shape-at code i) x ≡ None) × Represents code v (next-place (shape-at code i) i) (next (shape-at code i) i x)
-      × Represents code v (other-place (shape-at code i) i) (other (shape-at code i) i x))
+    × Represents code v (other-place (shape-at code i) i) (other (shape-at code i) i x))
     e
     (w .0, represents-grows code u v _ _ g (w .1), represents-grows code u v _ _ g (w .2))
 
@@ -137,39 +140,44 @@ module _ (code : List Shape) (u : List (Option Entry)) (p : List ℕ) (k : ℕ) 
       let in-pending : k < length p = omega (arith, h .wide, h .room) in
       let g : Grows u (set u j (Some (kept-of t))) = grows-set u j (kept-of t) new in
       let rep : Represents code (set u j (Some (kept-of t))) j t = record {
-            there = getD-set-same u j (Some (kept-of t)) None in-table;
-            opened = opened-grows code u (set u j (Some (kept-of t))) g (t .marks) o } in
+        there = getD-set-same u j (Some (kept-of t)) None in-table;
+        opened = opened-grows code u (set u j (Some (kept-of t))) g (t .marks) o;
+      } in
       record {
-        grows = g; there = rep; less = omega arith;
+        grows = g;
+        there = rep;
+        less = omega arith;
         still = record {
           long = length-set u j (Some (kept-of t)) ∙ h .long;
           wide = length-set p k j ∙ h .wide;
           room = omega (arith, h .room);
           first = g 0 (outermost 0) (h .first);
           sound = λ i f known. ⊎-elim
-            (λ (old : item u i ≡ Some f). let s = h .sound i f old in (s .0, s .1, represents-grows code u _ i (s .0) g (s .2)))
-            (λ (m : (i ≡ j) × (f ≡ kept-of t)).
+              (λ (old : item u i ≡ Some f). let s = h .sound i f old in (s .0, s .1, represents-grows code u _ i (s .0) g (s .2)))
+              (λ (m : (i ≡ j) × (f ≡ kept-of t)).
               (t, subst (λ n. Reach code n t) (sym (m .0)) r, subst (λ n. Represents code (set u j (Some (kept-of t))) n t) (sym (m .0)) rep))
-            (set-only u j (kept-of t) in-table i f known);
+              (set-only u j (kept-of t) in-table i f known);
           low = λ i f known. ⊎-elim
-            (λ (old : item u i ≡ Some f). h .low i f old)
-            (λ (m : (i ≡ j) × (f ≡ kept-of t)).
+              (λ (old : item u i ≡ Some f). h .low i f old)
+              (λ (m : (i ≡ j) × (f ≡ kept-of t)).
               subst (λ n. limits (length code) n f ≡ None) (sym (m .0)) (subst (λ (y : Entry). limits (length code) j y ≡ None) (sym (m .1)) lim))
-            (set-only u j (kept-of t) in-table i f known);
+              (set-only u j (kept-of t) in-table i f known);
           done = λ i f known inside. ⊎-elim
-            (λ (old : item u i ≡ Some f).
+              (λ (old : item u i ≡ Some f).
               ⊎-elim
               (λ (in-hand : x ≡ Some i). inl in-hand)
               (λ (rest : Waits p k i ⊎ Done code u i). inr (⊎-elim
-                (λ (m : Waits p k i).
-                  let other-index : m .0 ≢ k = omega (arith, m .1) in
-                  inl (m .0, omega (arith, m .1), getD-set-other p k (m .0) j 0 other-index ∙ m .2))
-                (λ (m : Done code u i).
-                  let s = h .sound i f old in inr (done-grows code u (set u j (Some (kept-of t))) i (s .0) g (s .2) m))
-                rest))
+              (λ (m : Waits p k i).
+              let other-index : m .0 ≢ k = omega (arith, m .1) in
+              inl (m .0, omega (arith, m .1), getD-set-other p k (m .0) j 0 other-index ∙ m .2))
+              (λ (m : Done code u i).
+              let s = h .sound i f old in inr (done-grows code u (set u j (Some (kept-of t))) i (s .0) g (s .2) m))
+              rest))
               (h .done i f old inside))
-            (λ (m : (i ≡ j) × (f ≡ kept-of t)). inr (inl (k, omega arith, getD-set-same p k j 0 in-pending ∙ sym (m .0))))
-            (set-only u j (kept-of t) in-table i f known) } }
+              (λ (m : (i ≡ j) × (f ≡ kept-of t)). inr (inl (k, omega arith, getD-set-same p k j 0 in-pending ∙ sym (m .0))))
+              (set-only u j (kept-of t) in-table i f known);
+        };
+      }
 
   noted-old : item u j ≡ Some (kept-of t) → Stepped code u k x j t u p k
   noted-old known = record { still = h; grows = λ i e f. f; there = record { there = known; opened = o }; less = omega arith }
@@ -178,16 +186,16 @@ module _ (code : List Shape) (u : List (Option Entry)) (p : List ℕ) (k : ℕ) 
   noted-ok e v q l same n =
       ⊎-elim
       (λ (m : (item u j ≡ None) × (v ≡ set u j (Some e)) × (q ≡ set p k j) × (l ≡ k + 1)).
-        let lim : limits (length code) j (kept-of t) ≡ None = subst (λ (y : Entry). limits (length code) j y ≡ None) same (n .0) in
-        let stepped = noted-new lim (m .0) in
-        let table : v ≡ set u j (Some (kept-of t)) = m .1 ∙ ap (λ y. set u j (Some y)) same in
-        subst (λ y. Stepped code u k x j t y q l) (sym table)
-        (subst (λ y. Stepped code u k x j t (set u j (Some (kept-of t))) y l) (sym (m .2))
-          (subst (λ y. Stepped code u k x j t (set u j (Some (kept-of t))) (set p k j) y) (sym (m .3)) stepped)))
+      let lim : limits (length code) j (kept-of t) ≡ None = subst (λ (y : Entry). limits (length code) j y ≡ None) same (n .0) in
+      let stepped = noted-new lim (m .0) in
+      let table : v ≡ set u j (Some (kept-of t)) = m .1 ∙ ap (λ y. set u j (Some y)) same in
+      subst (λ y. Stepped code u k x j t y q l) (sym table)
+      (subst (λ y. Stepped code u k x j t (set u j (Some (kept-of t))) y l) (sym (m .2))
+      (subst (λ y. Stepped code u k x j t (set u j (Some (kept-of t))) (set p k j) y) (sym (m .3)) stepped)))
       (λ (m : (item u j ≡ Some e) × (v ≡ u) × (q ≡ p) × (l ≡ k)).
-        let stepped = noted-old (m .0 ∙ ap Some same) in
-        subst (λ y. Stepped code u k x j t y q l) (sym (m .1))
-        (subst (λ y. Stepped code u k x j t u y l) (sym (m .2)) (subst (λ y. Stepped code u k x j t u p y) (sym (m .3)) stepped)))
+      let stepped = noted-old (m .0 ∙ ap Some same) in
+      subst (λ y. Stepped code u k x j t y q l) (sym (m .1))
+      (subst (λ y. Stepped code u k x j t u y l) (sym (m .2)) (subst (λ y. Stepped code u k x j t u p y) (sym (m .3)) stepped)))
       (n .1)
 
   pub noted-err : (e : Entry) (v : List (Option Entry)) (q : List ℕ) (b : Reason) → e ≡ kept-of t → Noted u p k (length code) j e v q (Err b)
@@ -195,22 +203,28 @@ module _ (code : List Shape) (u : List (Option Entry)) (p : List ℕ) (k : ℕ) 
   noted-err e v q b same n stands =
       ⊎-elim
       (λ (m : limits (length code) j e ≡ None → ⊥).
-        m (subst (λ (y : Entry). limits (length code) j y ≡ None) (sym same) (stands-limits code stands j t r)))
+      m (subst (λ (y : Entry). limits (length code) j y ≡ None) (sym same) (stands-limits code stands j t r)))
       (λ (m : (f : Entry) × (item u j ≡ Some f) × (f ≡ e → ⊥)).
-        let s = h .sound j (m .0) (m .1) in
-        let one : s .0 ≡ t = stands .same j (s .0) t (s .1) r in
-        m .2 (same-some (m .0) (kept-of (s .0)) (m .1) (s .2 .there) ∙ ap kept-of one ∙ sym same))
+      let s = h .sound j (m .0) (m .1) in
+      let one : s .0 ≡ t = stands .same j (s .0) t (s .1) r in
+      m .2 (same-some (m .0) (kept-of (s .0)) (m .1) (s .2 .there) ∙ ap kept-of one ∙ sym same))
       n
 
 -- the place in hand is done
 pub settled : (code : List Shape) (u : List (Option Entry)) (p : List ℕ) (k i : ℕ) → Searching code u p k (Some i) → Done code u i
     → Searching code u p k None
 settled code u p k i h d = record {
-    long = h .long; wide = h .wide; room = h .room; first = h .first; sound = h .sound; low = h .low;
-    done = λ j e known inside. ⊎-elim
+  long = h .long;
+  wide = h .wide;
+  room = h .room;
+  first = h .first;
+  sound = h .sound;
+  low = h .low;
+  done = λ j e known inside. ⊎-elim
       (λ (m : Some i ≡ Some j). inr (inr (subst (Done code u) (numbers i j m) d)))
       (λ (m : Waits p k j ⊎ Done code u j). inr m)
-      (h .done j e known inside) }
+      (h .done j e known inside);
+}
   where
     numbers : (i j : ℕ) → Some i ≡ Some j → i ≡ j
     numbers i j e = cc
@@ -282,42 +296,54 @@ module _ (code : List Shape) (u : List (Option Entry)) (p : List ℕ) (k i : ℕ
           → Searching code w z m None × (2 * unknowns w + m ≤ 2 * unknowns u + k)
       visit-done w z m n =
           let last = noted-ok code v q l (Some i) (stepped .still) (other-place (shape-at code i) i) other-here (off (here .1) inside fine-here)
-              other-still-opened (other-entry u (shape-at code i) i e) w z m other-kept n in
+          other-still-opened (other-entry u (shape-at code i) i e) w z m other-kept n in
           let g : Grows u w = λ a b c. last .grows a b (stepped .grows a b c) in
           let all : Done code w i = λ t r.
-                subst
-                (λ (y : Standing). (broken (shape-at code i) y ≡ None) × Represents code w (next-place (shape-at code i) i) (next (shape-at code i) i y)
-                  × Represents code w (other-place (shape-at code i) i) (other (shape-at code i) i y))
-                (represents-one code w i (here .0) t (represents-grows code u w i (here .0) g (here .2)) r)
-                (fine-here, represents-grows code v w _ _ (last .grows) (stepped .there), last .there) in
+          subst
+          (λ (y : Standing). (broken (shape-at code i) y ≡ None) × Represents code w (next-place (shape-at code i) i) (next (shape-at code i) i y)
+          × Represents code w (other-place (shape-at code i) i) (other (shape-at code i) i y))
+          (represents-one code w i (here .0) t (represents-grows code u w i (here .0) g (here .2)) r)
+          (fine-here, represents-grows code v w _ _ (last .grows) (stepped .there), last .there) in
           (settled code w z m i (last .still) all, omega (arith, last .less, stepped .less))
 
 -- the last pending place is taken in hand
 pub popped : (code : List Shape) (u : List (Option Entry)) (p : List ℕ) (k : ℕ) → Searching code u p k None → 0 < k
     → Searching code u p (k - 1) (Some (getD p (k - 1) 0))
 popped code u p k h l = record {
-    long = h .long; wide = h .wide; room = omega (arith, h .room); first = h .first; sound = h .sound; low = h .low;
-    done = λ i e known inside. ⊎-elim
+  long = h .long;
+  wide = h .wide;
+  room = omega (arith, h .room);
+  first = h .first;
+  sound = h .sound;
+  low = h .low;
+  done = λ i e known inside. ⊎-elim
       (λ (m : None ≡ Some i). absurd (none-some i refl m))
       (λ (m : Waits p k i ⊎ Done code u i). ⊎-elim
-        (λ (w : Waits p k i). ⊎-elim
-          (λ (s : w .0 ≡ k - 1). inl (ap Some (ap (λ n. getD p n 0) (sym s) ∙ w .2)))
-          (λ (s : w .0 ≡ k - 1 → ⊥). inr (inl (w .0, omega (arith, w .1, s), w .2)))
-          (cases-eq (w .0) (k - 1)))
-        (λ (d : Done code u i). inr (inr d))
-        m)
-      (h .done i e known inside) }
+      (λ (w : Waits p k i). ⊎-elim
+      (λ (s : w .0 ≡ k - 1). inl (ap Some (ap (λ n. getD p n 0) (sym s) ∙ w .2)))
+      (λ (s : w .0 ≡ k - 1 → ⊥). inr (inl (w .0, omega (arith, w .1, s), w .2)))
+      (cases-eq (w .0) (k - 1)))
+      (λ (d : Done code u i). inr (inr d))
+      m)
+      (h .done i e known inside);
+}
 
 -- a place in hand without an entry, or past the last instruction, needs no visit
 pub passed-over : (code : List Shape) (u : List (Option Entry)) (p : List ℕ) (k i : ℕ) → Searching code u p k (Some i)
     → ((e : Entry) → item u i ≡ Some e → i < length code → ⊥) → Searching code u p k None
 passed-over code u p k i h never = record {
-    long = h .long; wide = h .wide; room = h .room; first = h .first; sound = h .sound; low = h .low;
-    done = λ j e known inside. ⊎-elim
+  long = h .long;
+  wide = h .wide;
+  room = h .room;
+  first = h .first;
+  sound = h .sound;
+  low = h .low;
+  done = λ j e known inside. ⊎-elim
       (λ (m : Some i ≡ Some j). let s = numbers i j m in
-        absurd (never e (ap (item u) s ∙ known) (omega (arith, s))))
+      absurd (never e (ap (item u) s ∙ known) (omega (arith, s))))
       (λ (m : Waits p k j ⊎ Done code u j). inr m)
-      (h .done j e known inside) }
+      (h .done j e known inside);
+}
   where
     numbers : (i j : ℕ) → Some i ≡ Some j → i ≡ j
     numbers i j e = cc
@@ -342,16 +368,18 @@ module _ (code : List Shape) (u : List (Option Entry)) (p : List ℕ) (h : Searc
 
   pub finished : Exact code u
   finished = record {
-      stands = record {
-        same = λ i s t r q. represents-one code u i s t (brought r) (brought q);
-        fine = λ i s r l. let q = brought r in all-done i s q l s q .0;
-        inside = λ i s r. within (length code) i (kept-of s) (h .low i (kept-of s) (brought r .there)) .inside;
-        small = λ i s r. let w = within (length code) i (kept-of s) (h .low i (kept-of s) (brought r .there)) in (w .low, w .few);
-        ended = λ s r.
+    stands = record {
+      same = λ i s t r q. represents-one code u i s t (brought r) (brought q);
+      fine = λ i s r l. let q = brought r in all-done i s q l s q .0;
+      inside = λ i s r. within (length code) i (kept-of s) (h .low i (kept-of s) (brought r .there)) .inside;
+      small = λ i s r. let w = within (length code) i (kept-of s) (h .low i (kept-of s) (brought r .there)) in (w .low, w .few);
+      ended = λ s r.
           let w = within (length code) (length code) (kept-of s) (h .low (length code) (kept-of s) (brought r .there)) .ended refl in
-          ap (λ x. stand x (s .marks)) (w .0) ∙ ap (stand 0) (no-marks (s .marks) (w .1)) };
-      known = λ i s r. brought r;
-      reached = h .sound }
+          ap (λ x. stand x (s .marks)) (w .0) ∙ ap (stand 0) (no-marks (s .marks) (w .1));
+    };
+    known = λ i s r. brought r;
+    reached = h .sound;
+  }
 
 -- an empty table with the first place pending
 module _ (code : List Shape) (u : List (Option Entry)) (p : List ℕ) (long : length u ≡ length code + 1) (wide : length p ≡ length code + 1)
@@ -379,17 +407,20 @@ module _ (code : List Shape) (u : List (Option Entry)) (p : List ℕ) (long : le
         room = omega (arith, unknowns-le u);
         first = here;
         sound = λ i e known.
-          let m = only-first i e known in
-          (stand 0 [], subst (λ n. Reach code n (stand 0 [])) (sym (m .0)) begin,
-            subst (λ n. Represents code (set u 0 (Some (outermost 0))) n (stand 0 [])) (sym (m .0)) (record { there = here; opened = tt }));
+            let m = only-first i e known in (
+              stand 0 [],
+              subst (λ n. Reach code n (stand 0 [])) (sym (m .0)) begin,
+              subst (λ n. Represents code (set u 0 (Some (outermost 0))) n (stand 0 [])) (sym (m .0)) (record { there = here; opened = tt }),
+            );
         low = λ i e known.
-          let m = only-first i e known in
-          limits-none (length code) i e (omega (arith, m .0)) (omega (arith, ap (λ (y : Entry). y .height) (m .1)))
-          (omega (arith, ap (λ (y : Entry). y .depth) (m .1)))
-          (λ s. (ap (λ (y : Entry). y .height) (m .1), ap (λ (y : Entry). y .depth) (m .1)));
+            let m = only-first i e known in
+            limits-none (length code) i e (omega (arith, m .0)) (omega (arith, ap (λ (y : Entry). y .height) (m .1)))
+            (omega (arith, ap (λ (y : Entry). y .depth) (m .1)))
+            (λ s. (ap (λ (y : Entry). y .height) (m .1), ap (λ (y : Entry). y .depth) (m .1)));
         done = λ i e known inside.
-          let m = only-first i e known in
-          inr (inl (0, omega arith, getD-set-same p 0 0 0 (omega arith) ∙ sym (m .0))) }
+            let m = only-first i e known in
+            inr (inl (0, omega arith, getD-set-same p 0 0 0 (omega arith) ∙ sym (m .0)));
+      }
 
 -- the same noting, told by what its numbers are
 pub noted-as : (code : List Shape) (u : List (Option Entry)) (p : List ℕ) (k j j′ : ℕ) (e e′ : Entry) (v : List (Option Entry)) (q : List ℕ) (r : Result ℕ Reason)

@@ -25,20 +25,29 @@ use table::Table;
 
 // At most this many operands, and this many open marks.
 pub const MAX_HEIGHT: u32 = 64;
+
 pub const MAX_MARKS: u32 = 16;
 
 fn entry_at(entries: &[Option<Entry>], place: u32) -> Option<Entry>
     ensures { λ r. ⌜ r ≡ item (now (entries .entry)) place ⌝ }
 {
     let at = place as usize;
-    if at < entries.len() { entries[at] } else { None }
+    if at < entries.len() {
+        entries[at]
+    } else {
+        None
+    }
 }
 
 fn shape_of_place(code: &[Shape], place: u32) -> Shape
     ensures { λ r. ⌜ r ≡ shape-at (now (code .entry)) place ⌝ }
 {
     let at = place as usize;
-    if at < code.len() { code[at] } else { Shape::Plain { takes: 0, gives: 0 } }
+    if at < code.len() {
+        code[at]
+    } else {
+        Shape::Plain { takes: 0, gives: 0 }
+    }
 }
 
 // The mark that an instruction opens at a height.
@@ -46,7 +55,11 @@ fn opened_mark(place: u32, shape: Shape, height: u32) -> Option<Mark>
     ensures { λ r. ⌜ r ≡ opens-mark place shape height ⌝ }
 {
     match shape {
-        Shape::Opens { kind, takes } => Some(Mark { place, kind, height: height.saturating_sub(takes as u32) }),
+        Shape::Opens { kind, takes } => Some(Mark {
+            place,
+            kind,
+            height: height.saturating_sub(takes as u32),
+        }),
         _ => None,
     }
 }
@@ -77,13 +90,25 @@ fn floor_of(mark: Option<Mark>) -> u32
 fn outermost_entry(height: u32) -> Entry
     ensures { λ r. ⌜ r ≡ outermost height ⌝ }
 {
-    Entry { height, inner: None, depth: 0, looped: false, clear: true }
+    Entry {
+        height,
+        inner: None,
+        depth: 0,
+        looped: false,
+        clear: true,
+    }
 }
 
 fn entry_with_height(height: u32, entry: Entry) -> Entry
     ensures { λ r. ⌜ r ≡ with-height height entry ⌝ }
 {
-    Entry { height, inner: entry.inner, depth: entry.depth, looped: entry.looped, clear: entry.clear }
+    Entry {
+        height,
+        inner: entry.inner,
+        depth: entry.depth,
+        looped: entry.looped,
+        clear: entry.clear,
+    }
 }
 
 // What is left once the innermost mark is closed: as where it opened, at this height.
@@ -103,7 +128,11 @@ fn entry_outside(entries: &[Option<Entry>], height: u32, inner: Option<u32>) -> 
 fn taken(below: u32, number: u16, height: u32) -> Option<Reason>
     ensures { λ r. ⌜ r ≡ takes below number height ⌝ }
 {
-    if below as u64 + number as u64 <= height as u64 { None } else { Some(Reason::TakesBelow) }
+    if below as u64 + number as u64 <= height as u64 {
+        None
+    } else {
+        Some(Reason::TakesBelow)
+    }
 }
 
 fn unless_holds(holds: bool, reason: Reason) -> Option<Reason>
@@ -147,7 +176,10 @@ fn loop_closed(height: u32, mark: Option<Mark>) -> Option<Reason>
         Some(mark) => match mark.kind {
             MarkKind::Scope => Some(Reason::WrongPartner),
             MarkKind::Capture => Some(Reason::WrongPartner),
-            MarkKind::Loop { recursive: true } => unless_holds(height == mark.height, Reason::ClosesHigher),
+            MarkKind::Loop { recursive: true } => unless_holds(
+                height == mark.height,
+                Reason::ClosesHigher,
+            ),
             MarkKind::Loop { recursive: false } => None,
         },
     }
@@ -172,7 +204,10 @@ fn broken_by(shape: Shape, mark: Option<Mark>, entry: Entry) -> Option<Reason>
         Shape::Inside => unless_holds(entry.looped, Reason::NoLoop),
         Shape::Turn { target: _ } => unless_holds(entry.looped, Reason::NoLoop),
         Shape::Goto { target: _ } => None,
-        Shape::Branch { target: _, gives: _ } => taken(below, 1, entry.height),
+        Shape::Branch {
+            target: _,
+            gives: _,
+        } => taken(below, 1, entry.height),
         Shape::Opens { kind: _, takes } => taken(below, takes, entry.height),
         Shape::EndsScope => scope_closed(mark),
         Shape::EndsCapture => capture_closed(mark),
@@ -207,7 +242,13 @@ fn entry_inside(kind: MarkKind, place: u32, height: u32, entry: Entry) -> Entry
 {
     let looped = is_loop_kind(kind) || entry.looped;
     let clear = !is_capture_kind(kind) && entry.clear;
-    Entry { height, inner: Some(place), depth: entry.depth + 1, looped, clear }
+    Entry {
+        height,
+        inner: Some(place),
+        depth: entry.depth + 1,
+        looped,
+        clear,
+    }
 }
 
 // What an instruction that takes and gives operands leaves.
@@ -215,7 +256,10 @@ fn entry_after(takes: u16, gives: u16, entry: Entry) -> Entry
     requires { ⌜ entry .height ≤ 64 ⌝ }
     ensures { λ r. ⌜ r ≡ with-height (entry .height - takes + gives) entry ⌝ }
 {
-    entry_with_height(entry.height.saturating_sub(takes as u32) + gives as u32, entry)
+    entry_with_height(
+        entry.height.saturating_sub(takes as u32) + gives as u32,
+        entry,
+    )
 }
 
 // What the instruction at this place leaves where it goes on.
@@ -228,8 +272,16 @@ fn entry_next(entries: &[Option<Entry>], shape: Shape, place: u32, entry: Entry)
         Shape::Inside => entry_after(0, 1, entry),
         Shape::Turn { target: _ } => entry_after(0, 1, entry),
         Shape::Goto { target: _ } => entry,
-        Shape::Branch { target: _, gives: _ } => entry_after(1, 0, entry),
-        Shape::Opens { kind, takes } => entry_inside(kind, place, entry.height.saturating_sub(takes as u32), entry),
+        Shape::Branch {
+            target: _,
+            gives: _,
+        } => entry_after(1, 0, entry),
+        Shape::Opens { kind, takes } => entry_inside(
+            kind,
+            place,
+            entry.height.saturating_sub(takes as u32),
+            entry,
+        ),
         Shape::EndsScope => entry_outside(entries, entry.height, entry.inner),
         Shape::EndsCapture => entry_outside(entries, entry.height + 1, entry.inner),
         Shape::EndsLoop => entry_outside(entries, entry.height, entry.inner),
@@ -265,7 +317,8 @@ fn place_other(shape: Shape, place: u32) -> u32
     ensures { λ r. ⌜ r ≡ other-place shape place ⌝ }
 {
     match shape {
-        Shape::Turn { target } | Shape::Goto { target } | Shape::Branch { target, gives: _ } => target,
+        Shape::Turn { target } | Shape::Goto { target } | Shape::Branch { target, gives: _ } =>
+            target,
         _ => place + 1,
     }
 }
@@ -305,7 +358,13 @@ fn same_entry(a: Entry, b: Entry) -> bool
 }
 
 // Notes that a path brings this entry to this place. A new entry makes the place pending; `count` are, before and after.
-fn note(entries: &mut [Option<Entry>], pending: &mut [u32], count: usize, place: u32, entry: Entry) -> Result<usize, Reason>
+fn note(
+    entries: &mut [Option<Entry>],
+    pending: &mut [u32],
+    count: usize,
+    place: u32,
+    entry: Entry,
+) -> Result<usize, Reason>
     requires { ⌜ 0 < length (now entries) ⌝ ∗ ⌜ length (now entries) ≤ 1025 ⌝ ∗ ⌜ length (now pending) ≡ length (now entries) ⌝ ∗ ⌜ count + unknowns (now entries) ≤ length (now entries) ⌝ }
     ensures { λ r. ⌜ Noted (now (entries .entry)) (now (pending .entry)) count (length (now (entries .entry)) - 1) place entry (now (entries .exit)) (now (pending .exit)) r ⌝ }
 {
@@ -321,13 +380,23 @@ fn note(entries: &mut [Option<Entry>], pending: &mut [u32], count: usize, place:
             Ok(count + 1)
         }
         Some(known) => {
-            if same_entry(known, entry) { Ok(count) } else { Err(Reason::PathsDiffer) }
+            if same_entry(known, entry) {
+                Ok(count)
+            } else {
+                Err(Reason::PathsDiffer)
+            }
         }
     }
 }
 
 // Visits a place: the instruction there is not broken, and what it leaves is noted where it goes on.
-fn visit(code: &[Shape], entries: &mut [Option<Entry>], pending: &mut [u32], count: usize, place: u32) -> Result<usize, Reason>
+fn visit(
+    code: &[Shape],
+    entries: &mut [Option<Entry>],
+    pending: &mut [u32],
+    count: usize,
+    place: u32,
+) -> Result<usize, Reason>
     requires { ⌜ Searching (now code) (now entries) (now pending) count (Some place) ⌝ ∗ ⌜ length (now code) ≤ 1024 ⌝ }
     ensures { λ r. ⌜ Visited (now (code .entry)) (now (entries .entry)) count (now (entries .exit)) (now (pending .exit)) r ⌝ }
 {
@@ -373,7 +442,10 @@ impl Table {
     pub fn new() -> Table
         ensures { λ r. ⌜ r .entries ≡ replicate 1025 None ⌝ }
     {
-        Table { entries: [None; PLACES], pending: [0; PLACES] }
+        Table {
+            entries: [None; PLACES],
+            pending: [0; PLACES],
+        }
     }
 
     // Whether the code stands. If it does, the table has what the paths bring to each of its places, the end too.
@@ -381,10 +453,17 @@ impl Table {
         ensures { λ r. ⌜ Judged (now (code .entry)) (take (length (now (code .entry)) + 1) (now (self .exit) .entries)) r ⌝ }
     {
         if code.len() >= PLACES {
-            return Err(Broken { place: 0, reason: Reason::TooLong });
+            return Err(Broken {
+                place: 0,
+                reason: Reason::TooLong,
+            });
         }
         let places = code.len() + 1;
-        search(code, &mut self.entries[0..places], &mut self.pending[0..places])
+        search(
+            code,
+            &mut self.entries[0..places],
+            &mut self.pending[0..places],
+        )
     }
 
     // What the table has for a place.

@@ -1,7 +1,7 @@
 // Where exactly a rule is broken: the number, the name or the place at fault.
+use causes::defect::Defect;
 use console::escape::Escaped;
 use console::escape::EscapedDisplay;
-use causes::defect::Defect;
 use instruction::fields_of_kind;
 use layout::Layout;
 use layout::records::ConstantRecord;
@@ -36,7 +36,11 @@ pub impl fmt::Display for Detail<'_> as DetailDisplay {
             Detail::Number(number) => write!(f, ": {number}"),
             Detail::Code(number) => write!(f, ": code {number}"),
             Detail::Name(name) => show_name(f, name),
-            Detail::Start { section, offset } => write!(f, ": {} at byte {offset}", section_name(section)),
+            Detail::Start { section, offset } => write!(
+                f,
+                ": {} at byte {offset}",
+                section_name(section)
+            ),
             Detail::Field { name, value } => write!(f, ": {name} is {value}"),
             Detail::Jump { place, target } => write!(f, ": that at place {place} goes to {target}"),
             Detail::Load { code, place } => write!(f, ": at place {place} of code {code}"),
@@ -49,7 +53,12 @@ fn show_name<W: fmt::Write>(f: &mut fmt::Formatter<W>, name: &[u8]) -> fmt::Resu
     if name.len() <= MAX_SHOWN {
         write!(f, ": \"{}\"", Escaped(name))
     } else {
-        write!(f, ": \"{}..\" ({} bytes)", Escaped(&name[0..MAX_SHOWN]), name.len())
+        write!(
+            f,
+            ": \"{}..\" ({} bytes)",
+            Escaped(&name[0..MAX_SHOWN]),
+            name.len()
+        )
     }
 }
 
@@ -76,8 +85,13 @@ fn detail_of_record<'b>(layout: Layout<'b>, rule: RecordRule, number: u32) -> De
     match rule {
         RecordRule::Size => Detail::Number(layout.bytes.len() as u64),
         RecordRule::TemplateLimit => Detail::Number(layout.count(Section::Templates) as u64),
-        RecordRule::SectionStart(section) => Detail::Start { section, offset: layout.offset(section) },
-        RecordRule::TemplateMain | RecordRule::MainFlag => Detail::Code(layout.template(number).main),
+        RecordRule::SectionStart(section) => Detail::Start {
+            section,
+            offset: layout.offset(section),
+        },
+        RecordRule::TemplateMain | RecordRule::MainFlag => Detail::Code(
+            layout.template(number).main,
+        ),
         RecordRule::BlockCode => Detail::Code(layout.block(number).code),
         RecordRule::InstructionConstant => Detail::Number(layout.instruction(number).a as u64),
         RecordRule::JumpTargets => jump_detail(layout, number),
@@ -90,7 +104,8 @@ fn detail_of_record<'b>(layout: Layout<'b>, rule: RecordRule, number: u32) -> De
         RecordRule::LoadOutsideMain => load_detail(layout, number),
         RecordRule::TemplateNames => Detail::Name(template_name(layout, number)),
         RecordRule::BlockNames => Detail::Name(repeated_block_name(layout, number)),
-        RecordRule::BundleEnd | RecordRule::TemplateName | RecordRule::TemplateBlocks => Detail::Nothing,
+        RecordRule::BundleEnd | RecordRule::TemplateName | RecordRule::TemplateBlocks =>
+            Detail::Nothing,
         RecordRule::BlockName | RecordRule::CodeInstructions => Detail::Nothing,
         RecordRule::InstructionText | RecordRule::ConstantText => Detail::Nothing,
     }
@@ -101,7 +116,10 @@ fn jump_detail<'b>(layout: Layout<'b>, number: u32) -> Detail<'b> {
     match first_jump_outside(layout, number) {
         Some(place) => {
             let first = layout.code(number).first_instruction;
-            Detail::Jump { place, target: layout.instruction_from(first, place).a }
+            Detail::Jump {
+                place,
+                target: layout.instruction_from(first, place).a,
+            }
         }
         None => Detail::Nothing,
     }
@@ -119,26 +137,61 @@ fn load_detail<'b>(layout: Layout<'b>, number: u32) -> Detail<'b> {
 // The first field of an instruction that its kind would not allow even alone.
 fn field_detail<'b>(raw: InstructionRecord) -> Detail<'b> {
     let fields = fields_of_kind(raw.kind);
-    let none = InstructionRecord { kind: raw.kind, small: 0, argc: 0, a: 0, b: 0, line: 0, zero: 0 };
-    if !fields.fields_allowed(InstructionRecord { small: raw.small, ..none }) {
-        Detail::Field { name: "small", value: raw.small as u32 }
-    } else if !fields.fields_allowed(InstructionRecord { argc: raw.argc, ..none }) {
-        Detail::Field { name: "argc", value: raw.argc as u32 }
+    let none = InstructionRecord {
+        kind: raw.kind,
+        small: 0,
+        argc: 0,
+        a: 0,
+        b: 0,
+        line: 0,
+        zero: 0,
+    };
+    if !fields.fields_allowed(InstructionRecord {
+        small: raw.small,
+        ..none
+    }) {
+        Detail::Field {
+            name: "small",
+            value: raw.small as u32,
+        }
+    } else if !fields.fields_allowed(InstructionRecord {
+        argc: raw.argc,
+        ..none
+    }) {
+        Detail::Field {
+            name: "argc",
+            value: raw.argc as u32,
+        }
     } else if !fields.fields_allowed(InstructionRecord { a: raw.a, ..none }) {
-        Detail::Field { name: "a", value: raw.a }
+        Detail::Field {
+            name: "a",
+            value: raw.a,
+        }
     } else if !fields.fields_allowed(InstructionRecord { b: raw.b, ..none }) {
-        Detail::Field { name: "b", value: raw.b }
+        Detail::Field {
+            name: "b",
+            value: raw.b,
+        }
     } else {
-        Detail::Field { name: "the number in the last two bytes", value: raw.zero as u32 }
+        Detail::Field {
+            name: "the number in the last two bytes",
+            value: raw.zero as u32,
+        }
     }
 }
 
 // The first field of a constant that is not zero, and is no part of an integer or a text.
 fn constant_detail<'b>(raw: ConstantRecord) -> Detail<'b> {
     if raw.kind < 3 && raw.a != 0 {
-        Detail::Field { name: "a", value: raw.a }
+        Detail::Field {
+            name: "a",
+            value: raw.a,
+        }
     } else {
-        Detail::Field { name: "b", value: raw.b }
+        Detail::Field {
+            name: "b",
+            value: raw.b,
+        }
     }
 }
 

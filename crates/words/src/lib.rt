@@ -41,12 +41,17 @@ pub fn explain(heap: Global, bytes: &[u8], refusal: Refusal) -> Result<String, A
 fn standing_words(heap: Global, broken: BrokenCode) -> Result<String, AllocError> {
     let code = broken.code;
     let place = broken.broken.place;
-    format!(heap, "code {code}: the instruction at place {place}: {}", reason_words(broken.broken.reason))
+    format!(
+        heap,
+        "code {code}: the instruction at place {place}: {}",
+        reason_words(broken.broken.reason)
+    )
 }
 
 fn reason_words(reason: Reason) -> &'static str {
     match reason {
-        Reason::TakesBelow => "it takes an operand that is not there, or that lies below the innermost open mark",
+        Reason::TakesBelow =>
+            "it takes an operand that is not there, or that lies below the innermost open mark",
         Reason::NoLoop => "no loop is open",
         Reason::WrongPartner => "the innermost open mark is not one that it closes",
         Reason::ClosesHigher => "a recursive loop closes higher than it opened",
@@ -92,7 +97,9 @@ fn section_of_record(rule: RecordRule) -> Option<Section> {
         RecordRule::LoadOutsideMain => Some(Section::Blocks),
         RecordRule::CodeInstructions | RecordRule::JumpTargets => Some(Section::Codes),
         RecordRule::CodeLength | RecordRule::CodeFlag => Some(Section::Codes),
-        RecordRule::InstructionText | RecordRule::InstructionConstant => Some(Section::Instructions),
+        RecordRule::InstructionText | RecordRule::InstructionConstant => Some(
+            Section::Instructions,
+        ),
         RecordRule::InstructionKind | RecordRule::InstructionFields => Some(Section::Instructions),
         RecordRule::ConstantText | RecordRule::ConstantKind => Some(Section::Constants),
         RecordRule::ConstantFields => Some(Section::Constants),
@@ -126,12 +133,14 @@ fn fault_of_record(rule: RecordRule) -> &'static str {
         RecordRule::TemplateLimit => "there are more than 64 templates",
         RecordRule::SectionStart(_) => "a section does not directly follow what stands before it",
         RecordRule::BundleEnd => "the text section does not end where the bundle ends",
-        RecordRule::TemplateName | RecordRule::BlockName => "its name lies outside the text section",
+        RecordRule::TemplateName | RecordRule::BlockName =>
+            "its name lies outside the text section",
         RecordRule::TemplateMain => "its main code does not exist",
         RecordRule::TemplateBlocks => "its blocks lie outside the section of blocks",
         RecordRule::BlockCode => "its code does not exist",
         RecordRule::CodeInstructions => "its instructions lie outside the section of instructions",
-        RecordRule::InstructionText | RecordRule::ConstantText => "its text lies outside the text section",
+        RecordRule::InstructionText | RecordRule::ConstantText =>
+            "its text lies outside the text section",
         RecordRule::InstructionConstant => "its constant does not exist",
         RecordRule::JumpTargets => "a jump goes past its end",
         RecordRule::CodeLength => "it has more than 1024 instructions",
@@ -156,14 +165,36 @@ mod tests {
     #[test]
     fn explains(rt: LibcRuntime) -> Result<(), Fail> {
         let heap = rt.alloc();
-        let size = Defect { rule: Rule::Record(RecordRule::Size), record: 0 };
-        let name = Defect { rule: Rule::Record(RecordRule::TemplateName), record: 3 };
+        let size = Defect {
+            rule: Rule::Record(RecordRule::Size),
+            record: 0,
+        };
+        let name = Defect {
+            rule: Rule::Record(RecordRule::TemplateName),
+            record: 3,
+        };
         let words = explain(heap, &[0; 47], Refusal::Format(size))?;
-        check_eq(words.as_str(), "cause 1: header: the bundle does not have 48 to 65536 bytes: 47")?;
+        check_eq(
+            words.as_str(),
+            "cause 1: header: the bundle does not have 48 to 65536 bytes: 47",
+        )?;
         let words = explain(heap, &[0; 48], Refusal::Format(name))?;
-        check_eq(words.as_str(), "cause 2: template 3: its name lies outside the text section")?;
-        let broken = Broken { place: 7, reason: Reason::NoLoop };
-        let words = explain(heap, &[0; 48], Refusal::Standing(BrokenCode { code: 2, broken }))?;
-        check_eq(words.as_str(), "cause 5: code 2: the instruction at place 7: no loop is open")
+        check_eq(
+            words.as_str(),
+            "cause 2: template 3: its name lies outside the text section",
+        )?;
+        let broken = Broken {
+            place: 7,
+            reason: Reason::NoLoop,
+        };
+        let words = explain(
+            heap,
+            &[0; 48],
+            Refusal::Standing(BrokenCode { code: 2, broken }),
+        )?;
+        check_eq(
+            words.as_str(),
+            "cause 5: code 2: the instruction at place 7: no loop is open",
+        )
     }
 }

@@ -21,22 +21,23 @@ pub loop-place-again : need.loop-place-again
 loop-place-again c = λ clean placed.
     let inside : c .loop-place .place < length (c .loop-place .shapes) = omega arith in
     let P : List Shape → ℕ → Type 0 = λ xs k.
-        getD xs k (Plain 0 0) ≡ shape-at (code-shapes (c .args .code .layout .bytes .now) (c .args .code .number)) k in
+    getD xs k (Plain 0 0) ≡ shape-at (code-shapes (c .args .code .layout .bytes .now) (c .args .code .number)) k in
     elim (c .match-get .came) [
-      in-Some w ↦
-        let e = ap (mapped instruction-seen) (sym (w .in-Some .is)) ∙ c .get .ensures .clean clean placed in
-        subst (λ (xs : List Shape). (k : ℕ) → k < c .loop-place .place + 1 → P xs k) (sym (w .shapes-is))
-        (below-more (P _) (c .loop-place .place)
+      | in-Some w ↦
+          let e = ap (mapped instruction-seen) (sym (w .in-Some .is)) ∙ c .get .ensures .clean clean placed in
+          subst (λ (xs : List Shape). (k : ℕ) → k < c .loop-place .place + 1 → P xs k) (sym (w .shapes-is))
+          (below-more (P _) (c .loop-place .place)
           (λ k l. let other : k ≢ c .loop-place .place = omega arith in
-            getD-set-other (c .loop-place .shapes) (c .loop-place .place) k (w .shape-of .result) (Plain 0 0) other
-            ∙ c .loop-place .inv clean placed k l)
+          getD-set-other (c .loop-place .shapes) (c .loop-place .place) k (w .shape-of .result) (Plain 0 0) other
+          ∙ c .loop-place .inv clean placed k l)
           (getD-set-same (c .loop-place .shapes) (c .loop-place .place) (w .shape-of .result) (Plain 0 0) inside ∙ w .shape-of .ensures
-            ∙ sym (shape-of-nth (code (c .args .code .layout .bytes .now) (c .args .code .number) .steps) (c .loop-place .place)
-              (instruction-seen (w .in-Some .instruction)) (Plain 0 0) e)))
-    | in-rest w ↦
-        let e = ap (mapped instruction-seen) (sym (w .in-rest .is)) ∙ c .get .ensures .clean clean placed in
-        absurd (some-nth (code (c .args .code .layout .bytes .now) (c .args .code .number) .steps) (c .loop-place .place)
-          (omega (arith, c .pre .0)) e) ]
+          ∙ sym (shape-of-nth (code (c .args .code .layout .bytes .now) (c .args .code .number) .steps) (c .loop-place .place)
+          (instruction-seen (w .in-Some .instruction)) (Plain 0 0) e)))
+      | in-rest w ↦
+          let e = ap (mapped instruction-seen) (sym (w .in-rest .is)) ∙ c .get .ensures .clean clean placed in
+          absurd (some-nth (code (c .args .code .layout .bytes .now) (c .args .code .number) .steps) (c .loop-place .place)
+          (omega (arith, c .pre .0)) e)
+    ]
 
 pub returns : need.returns
 returns c = λ clean placed.

@@ -17,7 +17,7 @@ loop-entry-again c =
     let inside : c .loop-entry .«entry-index» < length (c .loop-entry .entries) = omega arith in
     below-more (λ k. item (set (c .loop-entry .entries) (c .loop-entry .«entry-index») None) k ≡ None) (c .loop-entry .«entry-index»)
     (λ k l. let other : k ≢ c .loop-entry .«entry-index» = omega arith in
-      getD-set-other (c .loop-entry .entries) (c .loop-entry .«entry-index») k None None other ∙ c .loop-entry .inv k l)
+    getD-set-other (c .loop-entry .entries) (c .loop-entry .«entry-index») k None None other ∙ c .loop-entry .inv k l)
     (getD-set-same (c .loop-entry .entries) (c .loop-entry .«entry-index») None None inside)
 
 pub loop-count-holds : need.loop-count-holds
@@ -25,7 +25,7 @@ loop-count-holds c =
     subst (λ (e : Entry). Searching (c .args .code .now) (set (c .loop-entry .entries) 0 (Some e)) (set (c .args .pending .now) 0 0) 1 None)
     (sym (c .outermost-entry .ensures))
     (started (c .args .code .now) (c .loop-entry .entries) (c .args .pending .now) (omega arith) (omega arith)
-      (λ i l. c .loop-entry .inv i (omega arith)))
+    (λ i l. c .loop-entry .inv i (omega arith)))
 
 pub visit-requires : need.visit-requires
 visit-requires c κs =

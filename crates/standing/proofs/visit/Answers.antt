@@ -40,37 +40,37 @@ returns-in-Break-more c =
     let p = err-from-errBy (c .from-residual .result) (c .from-residual .ensures .1) in
     rw (p .1)
     (visit-next-refused (c .args .code .now) (c .args .entries .now) (c .args .pending .now) (c .args .count) (c .args .place) (c .in-Some .«entry») (c .pre .0) (sym (c .entry-at .ensures) ∙ c .in-Some .is) (c .if-place-code .left) (broken-as (c .args .code .now) (c .args .entries .now) (c .args .place) (c .in-Some .«entry») (c .shape-of-place-shape .result) (c .innermost-mark .result) (c .shape-of-place-shape .ensures) (c .innermost-mark .ensures) None (sym (c .in-rest-broken-by .is) ∙ c .broken-by .ensures)) (c .note .last .entries) (c .note .last .pending) (c .in-Break-more .field-0 .0)
-        (noted-as (c .args .code .now) (c .args .entries .now) (c .args .pending .now) (c .args .count) (c .place-next .result) _ (c .entry-next-next .result) _ (c .note .last .entries) (c .note .last .pending) (Err (c .in-Break-more .field-0 .0))
-        (c .pre .0 .long) (next-place-as (c .args .code .now) (c .args .entries .now) (c .args .place) (c .in-Some .«entry») (c .shape-of-place-shape .result) (c .innermost-mark .result) (c .shape-of-place-shape .ensures) (c .innermost-mark .ensures) (c .place-next .result) (c .place-next .ensures))
-        (next-entry-as (c .args .code .now) (c .args .entries .now) (c .args .place) (c .in-Some .«entry») (c .shape-of-place-shape .result) (c .innermost-mark .result) (c .shape-of-place-shape .ensures) (c .innermost-mark .ensures) (c .entry-next-next .result) (c .entry-next-next .ensures)) (c .in-Break-more .ensures tt)))
+    (noted-as (c .args .code .now) (c .args .entries .now) (c .args .pending .now) (c .args .count) (c .place-next .result) _ (c .entry-next-next .result) _ (c .note .last .entries) (c .note .last .pending) (Err (c .in-Break-more .field-0 .0))
+    (c .pre .0 .long) (next-place-as (c .args .code .now) (c .args .entries .now) (c .args .place) (c .in-Some .«entry») (c .shape-of-place-shape .result) (c .innermost-mark .result) (c .shape-of-place-shape .ensures) (c .innermost-mark .ensures) (c .place-next .result) (c .place-next .ensures))
+    (next-entry-as (c .args .code .now) (c .args .entries .now) (c .args .place) (c .in-Some .«entry») (c .shape-of-place-shape .result) (c .innermost-mark .result) (c .shape-of-place-shape .ensures) (c .innermost-mark .ensures) (c .entry-next-next .result) (c .entry-next-next .ensures)) (c .in-Break-more .ensures tt)))
 
 pub note-requires-2 : need.note-requires-2
 note-requires-2 c κs =
     let s = visit-next (c .args .code .now) (c .args .entries .now) (c .args .pending .now) (c .args .count) (c .args .place) (c .in-Some .«entry») (c .pre .0) (sym (c .entry-at .ensures) ∙ c .in-Some .is) (c .if-place-code .left) (broken-as (c .args .code .now) (c .args .entries .now) (c .args .place) (c .in-Some .«entry») (c .shape-of-place-shape .result) (c .innermost-mark .result) (c .shape-of-place-shape .ensures) (c .innermost-mark .ensures) None (sym (c .in-rest-broken-by .is) ∙ c .broken-by .ensures)) (c .note .last .entries) (c .note .last .pending) (c .in-Continue-more .more)
-        (noted-as (c .args .code .now) (c .args .entries .now) (c .args .pending .now) (c .args .count) (c .place-next .result) _ (c .entry-next-next .result) _ (c .note .last .entries) (c .note .last .pending) (Ok (c .in-Continue-more .more))
-        (c .pre .0 .long) (next-place-as (c .args .code .now) (c .args .entries .now) (c .args .place) (c .in-Some .«entry») (c .shape-of-place-shape .result) (c .innermost-mark .result) (c .shape-of-place-shape .ensures) (c .innermost-mark .ensures) (c .place-next .result) (c .place-next .ensures))
-        (next-entry-as (c .args .code .now) (c .args .entries .now) (c .args .place) (c .in-Some .«entry») (c .shape-of-place-shape .result) (c .innermost-mark .result) (c .shape-of-place-shape .ensures) (c .innermost-mark .ensures) (c .entry-next-next .result) (c .entry-next-next .ensures)) (c .in-Continue-more .ensures tt)) in
+    (noted-as (c .args .code .now) (c .args .entries .now) (c .args .pending .now) (c .args .count) (c .place-next .result) _ (c .entry-next-next .result) _ (c .note .last .entries) (c .note .last .pending) (Ok (c .in-Continue-more .more))
+    (c .pre .0 .long) (next-place-as (c .args .code .now) (c .args .entries .now) (c .args .place) (c .in-Some .«entry») (c .shape-of-place-shape .result) (c .innermost-mark .result) (c .shape-of-place-shape .ensures) (c .innermost-mark .ensures) (c .place-next .result) (c .place-next .ensures))
+    (next-entry-as (c .args .code .now) (c .args .entries .now) (c .args .place) (c .in-Some .«entry») (c .shape-of-place-shape .result) (c .innermost-mark .result) (c .shape-of-place-shape .ensures) (c .innermost-mark .ensures) (c .entry-next-next .result) (c .entry-next-next .ensures)) (c .in-Continue-more .ensures tt)) in
     let h = s .still in
     (omega (arith, h .long), (omega (arith, h .long, c .pre .1), (omega (arith, h .long, h .wide), omega (arith, h .room, h .long))))
 
 pub returns : need.returns
 returns c =
     let s = visit-next (c .args .code .now) (c .args .entries .now) (c .args .pending .now) (c .args .count) (c .args .place) (c .in-Some .«entry») (c .pre .0) (sym (c .entry-at .ensures) ∙ c .in-Some .is) (c .if-place-code .left) (broken-as (c .args .code .now) (c .args .entries .now) (c .args .place) (c .in-Some .«entry») (c .shape-of-place-shape .result) (c .innermost-mark .result) (c .shape-of-place-shape .ensures) (c .innermost-mark .ensures) None (sym (c .in-rest-broken-by .is) ∙ c .broken-by .ensures)) (c .note .last .entries) (c .note .last .pending) (c .in-Continue-more .more)
-        (noted-as (c .args .code .now) (c .args .entries .now) (c .args .pending .now) (c .args .count) (c .place-next .result) _ (c .entry-next-next .result) _ (c .note .last .entries) (c .note .last .pending) (Ok (c .in-Continue-more .more))
-        (c .pre .0 .long) (next-place-as (c .args .code .now) (c .args .entries .now) (c .args .place) (c .in-Some .«entry») (c .shape-of-place-shape .result) (c .innermost-mark .result) (c .shape-of-place-shape .ensures) (c .innermost-mark .ensures) (c .place-next .result) (c .place-next .ensures))
-        (next-entry-as (c .args .code .now) (c .args .entries .now) (c .args .place) (c .in-Some .«entry») (c .shape-of-place-shape .result) (c .innermost-mark .result) (c .shape-of-place-shape .ensures) (c .innermost-mark .ensures) (c .entry-next-next .result) (c .entry-next-next .ensures)) (c .in-Continue-more .ensures tt)) in
+    (noted-as (c .args .code .now) (c .args .entries .now) (c .args .pending .now) (c .args .count) (c .place-next .result) _ (c .entry-next-next .result) _ (c .note .last .entries) (c .note .last .pending) (Ok (c .in-Continue-more .more))
+    (c .pre .0 .long) (next-place-as (c .args .code .now) (c .args .entries .now) (c .args .place) (c .in-Some .«entry») (c .shape-of-place-shape .result) (c .innermost-mark .result) (c .shape-of-place-shape .ensures) (c .innermost-mark .ensures) (c .place-next .result) (c .place-next .ensures))
+    (next-entry-as (c .args .code .now) (c .args .entries .now) (c .args .place) (c .in-Some .«entry») (c .shape-of-place-shape .result) (c .innermost-mark .result) (c .shape-of-place-shape .ensures) (c .innermost-mark .ensures) (c .entry-next-next .result) (c .entry-next-next .ensures)) (c .in-Continue-more .ensures tt)) in
     visited-by (c .args .code .now) (c .args .entries .now) (c .args .count) (c .note .last .entries) (c .note .last .pending) (c .in-Continue-more .more) (c .place-other .result) (c .entry-other-other .result)
     (c .note-2 .last .entries) (c .note-2 .last .pending)
     (λ m n. visit-done (c .args .code .now) (c .args .entries .now) (c .args .pending .now) (c .args .count) (c .args .place) (c .in-Some .«entry») (c .pre .0) (sym (c .entry-at .ensures) ∙ c .in-Some .is) (c .if-place-code .left) (broken-as (c .args .code .now) (c .args .entries .now) (c .args .place) (c .in-Some .«entry») (c .shape-of-place-shape .result) (c .innermost-mark .result) (c .shape-of-place-shape .ensures) (c .innermost-mark .ensures) None (sym (c .in-rest-broken-by .is) ∙ c .broken-by .ensures)) (c .note .last .entries) (c .note .last .pending) (c .in-Continue-more .more) s
-        (c .note-2 .last .entries) (c .note-2 .last .pending) m
-        (noted-as (c .args .code .now) (c .note .last .entries) (c .note .last .pending) (c .in-Continue-more .more) (c .place-other .result) _ (c .entry-other-other .result) _
-        (c .note-2 .last .entries) (c .note-2 .last .pending) (Ok m)
-        (s .still .long) (other-place-as (c .args .code .now) (c .args .entries .now) (c .args .place) (c .in-Some .«entry») (c .shape-of-place-shape .result) (c .innermost-mark .result) (c .shape-of-place-shape .ensures) (c .innermost-mark .ensures) (c .place-other .result) (c .place-other .ensures))
-        (other-entry-as (c .args .code .now) (c .args .entries .now) (c .args .place) (c .in-Some .«entry») (c .shape-of-place-shape .result) (c .innermost-mark .result) (c .shape-of-place-shape .ensures) (c .innermost-mark .ensures) (c .entry-other-other .result) (c .entry-other-other .ensures)) n))
+    (c .note-2 .last .entries) (c .note-2 .last .pending) m
+    (noted-as (c .args .code .now) (c .note .last .entries) (c .note .last .pending) (c .in-Continue-more .more) (c .place-other .result) _ (c .entry-other-other .result) _
+    (c .note-2 .last .entries) (c .note-2 .last .pending) (Ok m)
+    (s .still .long) (other-place-as (c .args .code .now) (c .args .entries .now) (c .args .place) (c .in-Some .«entry») (c .shape-of-place-shape .result) (c .innermost-mark .result) (c .shape-of-place-shape .ensures) (c .innermost-mark .ensures) (c .place-other .result) (c .place-other .ensures))
+    (other-entry-as (c .args .code .now) (c .args .entries .now) (c .args .place) (c .in-Some .«entry») (c .shape-of-place-shape .result) (c .innermost-mark .result) (c .shape-of-place-shape .ensures) (c .innermost-mark .ensures) (c .entry-other-other .result) (c .entry-other-other .ensures)) n))
     (λ b n. visit-other-refused (c .args .code .now) (c .args .entries .now) (c .args .pending .now) (c .args .count) (c .args .place) (c .in-Some .«entry») (c .pre .0) (sym (c .entry-at .ensures) ∙ c .in-Some .is) (c .if-place-code .left) (broken-as (c .args .code .now) (c .args .entries .now) (c .args .place) (c .in-Some .«entry») (c .shape-of-place-shape .result) (c .innermost-mark .result) (c .shape-of-place-shape .ensures) (c .innermost-mark .ensures) None (sym (c .in-rest-broken-by .is) ∙ c .broken-by .ensures)) (c .note .last .entries) (c .note .last .pending) (c .in-Continue-more .more) s
-        (c .note-2 .last .entries) (c .note-2 .last .pending) b
-        (noted-as (c .args .code .now) (c .note .last .entries) (c .note .last .pending) (c .in-Continue-more .more) (c .place-other .result) _ (c .entry-other-other .result) _
-        (c .note-2 .last .entries) (c .note-2 .last .pending) (Err b)
-        (s .still .long) (other-place-as (c .args .code .now) (c .args .entries .now) (c .args .place) (c .in-Some .«entry») (c .shape-of-place-shape .result) (c .innermost-mark .result) (c .shape-of-place-shape .ensures) (c .innermost-mark .ensures) (c .place-other .result) (c .place-other .ensures))
-        (other-entry-as (c .args .code .now) (c .args .entries .now) (c .args .place) (c .in-Some .«entry») (c .shape-of-place-shape .result) (c .innermost-mark .result) (c .shape-of-place-shape .ensures) (c .innermost-mark .ensures) (c .entry-other-other .result) (c .entry-other-other .ensures)) n))
+    (c .note-2 .last .entries) (c .note-2 .last .pending) b
+    (noted-as (c .args .code .now) (c .note .last .entries) (c .note .last .pending) (c .in-Continue-more .more) (c .place-other .result) _ (c .entry-other-other .result) _
+    (c .note-2 .last .entries) (c .note-2 .last .pending) (Err b)
+    (s .still .long) (other-place-as (c .args .code .now) (c .args .entries .now) (c .args .place) (c .in-Some .«entry») (c .shape-of-place-shape .result) (c .innermost-mark .result) (c .shape-of-place-shape .ensures) (c .innermost-mark .ensures) (c .place-other .result) (c .place-other .ensures))
+    (other-entry-as (c .args .code .now) (c .args .entries .now) (c .args .place) (c .in-Some .«entry») (c .shape-of-place-shape .result) (c .innermost-mark .result) (c .shape-of-place-shape .ensures) (c .innermost-mark .ensures) (c .entry-other-other .result) (c .entry-other-other .ensures)) n))
     (c .note-2 .result) (c .note-2 .ensures)

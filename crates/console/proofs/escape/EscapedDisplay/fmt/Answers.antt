@@ -9,8 +9,8 @@ use Rattle.console.proofs.escape.EscapedDisplay.fmt.Needs as need
 
 pub loop-byte-again : need.loop-byte-again
 loop-byte-again g c p =
-  let so-far = c .loop-byte .inv p in
-  put-is (g .W·Write .took) _ _ _ _ (escaped-more (c .args .self .now .0 .now) (c .loop-byte .byte-index) (omega arith))
+    let so-far = c .loop-byte .inv p in
+    put-is (g .W·Write .took) _ _ _ _ (escaped-more (c .args .self .now .0 .now) (c .loop-byte .byte-index) (omega arith))
     (put-more (g .W·Write .took) _ _ _ _ _ so-far (c .write .ensures .shows (so-far .plain) (ap isOk (c .in-Continue-write .was tt))))
 
 pub returns : need.returns

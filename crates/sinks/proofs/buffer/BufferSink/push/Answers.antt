@@ -28,5 +28,5 @@ returns c =
     record {
       answer = sym e;
       after = taken (buffering (c .args .self .now .len) (c .args .self .now .room .bytes .now)) (c .args .piece .now) _ _ e (ap (take _) (c .put .ensures) ∙ put-text _ _ _ within) (ap fits (ap length (c .put .ensures) ∙ put-length _ _ _ within whole));
-      untouched = ap (drop _) (c .put .ensures) ∙ put-rest _ _ _ within
+      untouched = ap (drop _) (c .put .ensures) ∙ put-rest _ _ _ within;
     }
