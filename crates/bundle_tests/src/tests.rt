@@ -1,3 +1,4 @@
+use crate::assembled::Line;
 use crate::assembled::Parts;
 use crate::assembled::assemble;
 use crate::assembled::base_line_cell;
@@ -114,6 +115,36 @@ fn opens_sizes_from_48_to_65536(rt: LibcRuntime) -> Result<(), Fail> {
     check_eq(cause(&smallest[0..47]), 1)?;
     check_eq(cause(&text_only(&rt, 65488)?), 0)?;
     check_eq(cause(&text_only(&rt, 65489)?), 1)
+}
+
+const EMPTY_TEXT: Line = Line {
+    kind: 0,
+    a: 0,
+    b: 0,
+    line: 0,
+};
+
+// One template, whose main code has this many instructions.
+fn one_code(rt: &LibcRuntime, length: u32) -> Result<Vec<u8>, Fail> {
+    let lines = vec![in rt.alloc(); EMPTY_TEXT; length as usize]?;
+    assemble(
+        rt,
+        &Parts {
+            templates: &[[0; 5]],
+            blocks: &[],
+            codes: &[[0, length, 0]],
+            instructions: &lines,
+            constants: &[],
+            text: &[],
+        },
+    )
+}
+
+#[test]
+fn opens_codes_of_at_most_1024_instructions(rt: LibcRuntime) -> Result<(), Fail> {
+    check_eq(cause(&one_code(&rt, 0)?), 0)?;
+    check_eq(cause(&one_code(&rt, 1024)?), 0)?;
+    check_eq(cause(&one_code(&rt, 1025)?), 3)
 }
 
 // Opens the empty bundle, then `whole`, and then refuses a beginning of it.
