@@ -1,5 +1,7 @@
-// Tests of the reader of bundles, on bundles that are put together here.
+// Tests of the reader of bundles and of their listing, on bundles that are put together here.
 #[cfg(test)]
 mod assembled;
+#[cfg(test)]
+mod listings;
 #[cfg(test)]
 mod tests;
