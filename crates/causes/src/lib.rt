@@ -1,5 +1,7 @@
 // Why a node would not open a bundle: the rules of the format, each with the number of its cause, and the search
 // for the first one that is broken.
+#![tactic(auto)]
+
 ghost use Rattle.std.specs.Prelude.{◌≡◌, true};
 ghost use Rattle.causes.specs.Causes.{number as number_of, number_record, breach, first_defect, defect, cause, cause_of, header_rules, all_kept};
 ghost use Rattle.causes.specs.Tally.{is_owner, any_owner};

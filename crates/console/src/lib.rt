@@ -1,4 +1,6 @@
 // Answers to lines of hex digits.
+#![tactic(auto)]
+
 ghost use Rattle.std.specs.Prelude.{◌≡◌, IfOk, string_bytes};
 ghost use Rattle.opening.specs.Opening.{Lowest};
 ghost use Rattle.console.specs.Answer.{cause_line, Answers};

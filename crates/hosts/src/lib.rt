@@ -1,4 +1,6 @@
 // Where values come from.
+#![tactic(auto)]
+
 ghost use Rattle.std.specs.Prelude.{◌≡◌, length};
 ghost use Rattle.hosts.specs.Meaning.{Meaning};
 ghost use Rattle.hosts.specs.Laws.{Lawful};

@@ -1,4 +1,6 @@
 // The instructions of a bundle, decoded from their records.
+#![tactic(auto)]
+
 ghost use Rattle.std.specs.Prelude.{◌≡◌};
 ghost use Rattle.std.specs.Option.{option_map};
 ghost use Rattle.instruction.specs.Kinds.{fields as fields_of, constant_of, mode_of, decoded, signed};

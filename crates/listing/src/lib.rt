@@ -1,6 +1,8 @@
 // A bundle in readable form: its header, its templates with their blocks, and the instructions of each code. Before an
 // instruction stand its place and how many operands there are, after it its line and the open marks; a dash stands where
 // no path leads.
+#![tactic(auto)]
+
 mod instructions;
 
 use bundle::view::{Block, Code, Examined, Template};

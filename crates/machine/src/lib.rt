@@ -1,4 +1,6 @@
 // What a run is: its definition, and what holds of every run.
+#![tactic(auto)]
+
 ghost use Rattle.machine.specs.Laws.{LawsOfRuns};
 
 pub mod fault;

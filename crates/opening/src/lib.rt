@@ -1,4 +1,6 @@
 // Whether a bundle opens: it has none of the causes 1 to 4, and each of its codes stands.
+#![tactic(auto)]
+
 ghost use Rattle.std.specs.Prelude.{◌≡◌, ℕ, ◌+◌, ◌<◌, ◌≤◌, length, take, IfErr, MatchOption, MatchResult};
 ghost use Rattle.layout.specs.Layout.{records};
 ghost use Rattle.layout.specs.declared.section.Section.TheVariants.{Codes};

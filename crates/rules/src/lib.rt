@@ -1,4 +1,6 @@
 // The rules of the format: what each record of a bundle has to keep.
+#![tactic(auto)]
+
 mod names;
 mod records;
 

@@ -1,4 +1,6 @@
 // Shows what is in a bundle, and says whether it opens or which of the causes 1 to 5 keeps it from opening.
+#![tactic(auto)]
+
 use anyhow::anyhow;
 use bundle::examine;
 use console::answer;
@@ -17,13 +19,13 @@ fn main(rt: HostRuntime) -> anyhow::Result<()> {
 fn run(rt: &HostRuntime) -> anyhow::Result<()> {
     let mut args = env::args(rt)?.skip(1);
     match args.next() {
-        Some(command) if command == "examine" => {}
-        _ => return Err(USAGE.into()),
+        Some(command) if command.as_str() == "examine" => {}
+        _ => return Err(anyhow!(USAGE)),
     }
     match (args.next(), args.next()) {
         (None, _) => answer_lines(rt),
         (Some(path), None) => examine_file(rt, path.as_str()),
-        _ => Err(USAGE.into()),
+        _ => Err(anyhow!(USAGE)),
     }
 }
 

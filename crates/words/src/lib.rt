@@ -1,4 +1,6 @@
 // The words for a bundle that would not open: which rule is broken, which record breaks it, and what is wrong there.
+#![tactic(auto)]
+
 ghost use Rattle.std.specs.Prelude.{IfOk, string_bytes};
 ghost use Rattle.opening.specs.Refusals.{cause_number};
 ghost use Rattle.console.specs.Answer.{cause_line};
