@@ -5,19 +5,19 @@ use Rattle.rules.specs.declared.RecordRule.TheVariants.{Size}
 use Rattle.causes.proofs.Search.{owner_among, rule_passes, rule_breaks, rules_end}
 use Rattle.causes.proofs.first_defect_in.Goals as goal
 
-pub first-breach-requires : goal.first-breach-requires
-first-breach-requires c =
+pub first_breach-requires : goal.first_breach-requires
+first_breach-requires c =
     λ h. c.requires (owner_among c.args.rules.now c.loop-rule.rule-index (Record Size) c.loop-rule-test.true h)
 
 pub loop-rule-preserved : goal.loop-rule-preserved
 loop-rule-preserved c =
     rule_passes c.args.layout.bytes.now c.args.rules.now c.loop-rule.rule-index (Record Size) c.loop-rule.invariant
-    c.loop-rule-test.true (sym c.first-breach.ensures ∙ c.in-default.is)
+    c.loop-rule-test.true (sym c.first_breach.ensures ∙ c.in_default.is)
 
 pub returns-in-Some : goal.returns-in-Some
 returns-in-Some c =
     rule_breaks c.args.layout.bytes.now c.args.rules.now c.loop-rule.rule-index (Record Size) c.loop-rule.invariant
-    c.in-Some.«record» c.loop-rule-test.true (sym c.first-breach.ensures ∙ c.in-Some.is)
+    c.in-Some.«record» c.loop-rule-test.true (sym c.first_breach.ensures ∙ c.in-Some.is)
 
 pub returns : goal.returns
 returns c =

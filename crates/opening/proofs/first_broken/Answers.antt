@@ -11,7 +11,7 @@ use Rattle.bundle.specs.View.{code_view}
 use Rattle.opening.specs.Opening.{code_shapes, AllStand}
 use Rattle.opening.proofs.Verdict.{judged_stands, judged_broken}
 use Rattle.opening.proofs.first_broken.Goals as goal
-use Rattle.opening.proofs.first_broken.Goals.{in-Some+in-default-check-code, in-default}
+use Rattle.opening.proofs.first_broken.Goals.{in-Some+in_default-check_code, in_default}
 
 pub returns-in-Err : goal.returns-in-Err
 returns-in-Err c =
@@ -27,15 +27,15 @@ loop-number-preserved c =
     omega (arith, ap (λ (h : Header). h.codes.count) c.header-number-end.ensures) in
     below_more (λ k. Stands (code_shapes c.args.bundle.layout.bytes.now k)) c.loop-number.number c.loop-number.invariant
     (elim c.match-code.branch [
-      | in-Some+in-default-check-code w ↦
+      | in-Some+in_default-check_code w ↦
           let p = w.in-Some.ensures.place in
           judged_stands c.args.bundle.layout.bytes.now w.in-Some.code.layout.bytes.now c.loop-number.number w.in-Some.code.number
-          p.0 p.1 c.requires l (λ xs. take (length xs + 1) w.check-code.new.table.entries) w.check-code.result
-          w.check-code.ensures w.in-default-check-code.not-Err
-      | in-default w ↦
+          p.0 p.1 c.requires l (λ xs. take (length xs + 1) w.check_code.new.table.entries) w.check_code.result
+          w.check_code.ensures w.in_default-check_code.not-Err
+      | in_default w ↦
           let e = sym (cond-true (ltb c.loop-number.number (records c.args.bundle.layout.bytes.now Codes)) _ _ (lt-ltb _ _ l)) in
           absurd (none_some (code c.args.bundle.layout.bytes.now c.loop-number.number) refl
-          (ap (option_map code_view) (sym w.in-default.is) ∙ c.code.ensures.value ∙ sym e))
+          (ap (option_map code_view) (sym w.in_default.is) ∙ c.code.ensures.value ∙ sym e))
     ])
 
 pub returns : goal.returns

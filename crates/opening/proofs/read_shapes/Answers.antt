@@ -9,7 +9,7 @@ use Rattle.bundle.specs.Decoded.{code}
 use Rattle.opening.specs.Opening.{code_shapes}
 use Rattle.opening.proofs.Reading.{shape_of_nth, some_nth, all_read}
 use Rattle.opening.proofs.read_shapes.Goals as goal
-use Rattle.opening.proofs.read_shapes.Goals.{in-Some, in-default}
+use Rattle.opening.proofs.read_shapes.Goals.{in-Some, in_default}
 
 pub loop-place-preserved : goal.loop-place-preserved
 loop-place-preserved c = λ clean placed.
@@ -22,13 +22,13 @@ loop-place-preserved c = λ clean placed.
           subst (λ (xs : List Shape). (k : ℕ) → k < c.loop-place.place + 1 → P xs k) (sym w.shapes-is)
           (below_more (P _) c.loop-place.place
           (λ k l. let other : k ≢ c.loop-place.place = omega arith in
-          get_or-set_other c.loop-place.shapes c.loop-place.place k w.shape-of.result (Plain 0 0) other
+          get_or-set_other c.loop-place.shapes c.loop-place.place k w.shape_of.result (Plain 0 0) other
           ∙ c.loop-place.invariant clean placed k l)
-          (get_or-set_same c.loop-place.shapes c.loop-place.place w.shape-of.result (Plain 0 0) inside ∙ w.shape-of.ensures
+          (get_or-set_same c.loop-place.shapes c.loop-place.place w.shape_of.result (Plain 0 0) inside ∙ w.shape_of.ensures
           ∙ sym (shape_of_nth (code c.args.code.layout.bytes.now c.args.code.number).steps c.loop-place.place
           (instruction_seen w.in-Some.instruction) (Plain 0 0) e)))
-      | in-default w ↦
-          let e = ap (option_map instruction_seen) (sym w.in-default.is) ∙ c.get.ensures.clean clean placed in
+      | in_default w ↦
+          let e = ap (option_map instruction_seen) (sym w.in_default.is) ∙ c.get.ensures.clean clean placed in
           absurd (some_nth (code c.args.code.layout.bytes.now c.args.code.number).steps c.loop-place.place
           (omega (arith, c.requires.0)) e)
     ]

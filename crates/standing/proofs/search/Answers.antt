@@ -17,7 +17,7 @@ loop-entry-preserved c =
 pub loop-count-init : goal.loop-count-init
 loop-count-init c =
     subst (λ (e : Entry). Searching c.args.code.now (set c.loop-entry.entries 0 (Some e)) (set c.args.pending.now 0 0) 1 None)
-    (sym c.outermost-entry.ensures)
+    (sym c.outermost_entry.ensures)
     (started c.args.code.now c.loop-entry.entries c.args.pending.now (omega arith) (omega arith)
     (λ i l. c.loop-entry.invariant i (omega arith)))
 

@@ -9,16 +9,16 @@ pub loop-namer-init : goal.loop-namer-init
 loop-namer-init c =
     (counts_none (begins c.args.layout.bytes.now c.args.owned), counts_none (finishes c.args.layout.bytes.now c.args.owned))
 
-pub overflow-add-starts : goal.overflow-add-starts
-overflow-add-starts c =
+pub overflow_add-starts : goal.overflow_add-starts
+overflow_add-starts c =
     omega (
       arith,
       few_namers c.args.layout.bytes.now c.args.owned c.requires,
       counts_le c.loop-namer.namer _ c.loop-namer.starts c.min-start.result c.loop-namer.invariant.0 (omega arith),
     )
 
-pub overflow-add-ends : goal.overflow-add-ends
-overflow-add-ends c =
+pub overflow_add-ends : goal.overflow_add-ends
+overflow_add-ends c =
     omega (
       arith,
       few_namers c.args.layout.bytes.now c.args.owned c.requires,

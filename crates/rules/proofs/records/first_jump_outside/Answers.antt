@@ -6,13 +6,13 @@ use Rattle.rules.proofs.records.first_jump_outside.Goals as goal
 
 pub loop-place-preserved : goal.loop-place-preserved
 loop-place-preserved c =
-    each_more (jumps_inside c.args.layout.bytes.now c.args.number) c.loop-place.place c.loop-place.invariant (sym c.jump-inside.ensures ∙ c.if-not-jump-inside.false)
+    each_more (jumps_inside c.args.layout.bytes.now c.args.number) c.loop-place.place c.loop-place.invariant (sym c.jump_inside.ensures ∙ c.if-not-jump_inside.false)
 
-pub returns-then-not-jump-inside : goal.returns-then-not-jump-inside
-returns-then-not-jump-inside c =
+pub returns-then-not-jump_inside : goal.returns-then-not-jump_inside
+returns-then-not-jump_inside c =
     stops_at (jumps_inside c.args.layout.bytes.now c.args.number) c.code-count.result.instruction_count _ c.loop-place.place
     (ap (λ (r : CodeRecord). r.instruction_count) c.code-count.ensures) c.loop-place-test.true c.loop-place.invariant
-    (sym c.jump-inside.ensures ∙ c.if-not-jump-inside.true)
+    (sym c.jump_inside.ensures ∙ c.if-not-jump_inside.true)
 
 pub returns : goal.returns
 returns c =

@@ -9,18 +9,18 @@ use Rattle.rules.proofs.records.keeps.Goals as goal
 
 pub returns-in-JumpTargets : goal.returns-in-JumpTargets
 returns-in-JumpTargets c =
-    subst (λ (r : RecordRule). c.is-none.result ≡ keeps_record c.args.layout.bytes.now r c.args.number)
+    subst (λ (r : RecordRule). c.is_none.result ≡ keeps_record c.args.layout.bytes.now r c.args.number)
     (sym c.in-JumpTargets.is)
-    (none_is_each (jumps_inside c.args.layout.bytes.now c.args.number) _ c.first-jump-outside.result
-    c.is-none.result c.first-jump-outside.ensures c.is-none.ensures)
+    (none_is_each (jumps_inside c.args.layout.bytes.now c.args.number) _ c.first_jump_outside.result
+    c.is_none.result c.first_jump_outside.ensures c.is_none.ensures)
 
 pub returns-in-LoadOutsideMain : goal.returns-in-LoadOutsideMain
 returns-in-LoadOutsideMain c =
-    subst (λ (r : RecordRule). c.is-none-in-LoadOutsideMain.result ≡ keeps_record c.args.layout.bytes.now r c.args.number)
+    subst (λ (r : RecordRule). c.is_none-in-LoadOutsideMain.result ≡ keeps_record c.args.layout.bytes.now r c.args.number)
     (sym c.in-LoadOutsideMain.is)
     (subst
-    (λ (x : BlockRecord). c.is-none-in-LoadOutsideMain.result
+    (λ (x : BlockRecord). c.is_none-in-LoadOutsideMain.result
     ≡ each (code c.args.layout.bytes.now x.code).instruction_count (λ k. not (loads c.args.layout.bytes.now x.code k)))
     c.block-in-LoadOutsideMain.ensures
     (none_is_each (λ k. not (loads c.args.layout.bytes.now c.block-in-LoadOutsideMain.result.code k)) _
-    c.first-load.result c.is-none-in-LoadOutsideMain.result c.first-load.ensures c.is-none-in-LoadOutsideMain.ensures))
+    c.first_load.result c.is_none-in-LoadOutsideMain.result c.first_load.ensures c.is_none-in-LoadOutsideMain.ensures))

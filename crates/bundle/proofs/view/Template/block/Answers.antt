@@ -7,7 +7,7 @@ use Rattle.bundle.proofs.view.Template.block.Goals as goal
 
 pub returns-then-place-raw : goal.returns-then-place-raw
 returns-then-place-raw c =
-    ap (λ (r : BlockRecord). Some (block_view (record { layout = c.args.self.layout; raw = r }))) c.block-from.ensures
+    ap (λ (r : BlockRecord). Some (block_view (record { layout = c.args.self.layout; raw = r }))) c.block_from.ensures
     ∙ sym (nth_listed (λ k. block c.args.self.layout.bytes.now (c.args.self.raw.first_block + k)) _ c.args.place c.if-place-raw.true)
 
 pub returns-else-place-raw : goal.returns-else-place-raw

@@ -11,12 +11,12 @@ pub returns-in-32-to-126-clause-writes : goal.returns-in-32-to-126-clause-writes
 returns-in-32-to-126-clause-writes g c p ok =
     let b = c.args.self.now.0 in
     let e : escaped_byte b ≡ b ∷ [] = grind (arith, nat_tests) in
-    has_written_of_eq g.W.Write.write_str_gives _ _ _ _ (encode_ascii b (omega arith) ∙ sym e) (c.write-char.ensures.writes p ok)
+    has_written_of_eq g.W.Write.write_str_gives _ _ _ _ (encode_ascii b (omega arith) ∙ sym e) (c.write_char.ensures.writes p ok)
 
-pub returns-in-default-clause-writes : goal.returns-in-default-clause-writes
-returns-in-default-clause-writes g c p ok =
+pub returns-in_default-clause-writes : goal.returns-in_default-clause-writes
+returns-in_default-clause-writes g c p ok =
     let b = c.args.self.now.0 in
     let e : escaped_byte b ≡ 92 ∷ 120 ∷ hex_digit (b / 16) ∷ hex_digit (b % 16) ∷ [] = grind (arith, nat_tests) in
-    let high = ap encode c.hex-digit-high.ensures ∙ encode_hex_digit (b / 16) (omega arith) in
-    let low = ap encode c.hex-digit-low.ensures ∙ encode_hex_digit (b % 16) (omega arith) in
+    let high = ap encode c.hex_digit-high.ensures ∙ encode_hex_digit (b / 16) (omega arith) in
+    let low = ap encode c.hex_digit-low.ensures ∙ encode_hex_digit (b % 16) (omega arith) in
     has_written_of_eq g.W.Write.write_str_gives _ _ _ _ ((λ i. 92 ∷ 120 ∷ (high i ++ low i)) ∙ sym e) (c.write.ensures.writes p ok)

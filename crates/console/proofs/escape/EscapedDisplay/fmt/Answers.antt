@@ -9,7 +9,7 @@ pub loop-byte-preserved : goal.loop-byte-preserved
 loop-byte-preserved g c p =
     let so_far = c.loop-byte.invariant p in
     has_written_of_eq g.W.Write.write_str_gives _ _ _ _ (escaped_more c.args.self.now.0.now c.loop-byte.byte-index (omega arith))
-    (has_written_append g.W.Write.write_str_gives _ _ _ _ _ so_far (c.write.ensures.writes so_far.plain (ap is_ok c.in-ok-write.was)))
+    (has_written_append g.W.Write.write_str_gives _ _ _ _ _ so_far (c.write.ensures.writes so_far.plain (ap is_ok c.in_ok-write.was)))
 
 pub returns-clause-writes : goal.returns-clause-writes
 returns-clause-writes g c p ok = has_written_of_eq g.W.Write.write_str_gives _ _ _ _ (ap escaped (take_all c.loop-byte.byte-index c.args.self.now.0.now (omega arith))) (c.loop-byte.invariant p)

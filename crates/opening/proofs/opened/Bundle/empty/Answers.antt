@@ -8,7 +8,7 @@ use Rattle.opening.proofs.opened.Bundle.empty.Goals as goal
 pub unreachable-requires : goal.unreachable-requires
 unreachable-requires c = some_defect empty_bundle _ c.in-Err.ensures.refused empty_format
 
-pub invariant-of-result : goal.invariant-of-result
-invariant-of-result c =
+pub invariant_of-result : goal.invariant_of-result
+invariant_of-result c =
     let e = c.in-Ok.ensures in
     (ap cause e.accepted ∙ empty_format, (∣ subst (λ (b : List ℕ). AllStand b) (sym e.accepted) empty_stands ∣₁, tt))

@@ -5,8 +5,8 @@ use Rattle.opening.specs.Opening.Lowest.{none, format, standing}
 use Rattle.opening.proofs.Verdict.{some_defect, broken_keeps}
 use Rattle.opening.proofs.opened.Bundle.«open».Goals as goal
 
-pub invariant-of-self : goal.invariant-of-self
-invariant-of-self c =
+pub invariant_of-self : goal.invariant_of-self
+invariant_of-self c =
     let e = c.in-Ok.ensures in
     (ap cause e.accepted ∙ sym e.lowest, (∣ c.in-None.ensures ∣₁, tt))
 

@@ -7,8 +7,8 @@ use Rattle.operands.proofs.Down.{down_length}
 use Rattle.operands.proofs.Codes.{SoFar, next_value, none_at}
 use Rattle.operands.proofs.stack.Operands.copy_codes.Goals as goal
 
-pub overflow-sub-first : goal.overflow-sub-first
-overflow-sub-first c = let l = down_length (Value 0) c.args.self.now.items c.args.self.now.height in omega arith
+pub overflow_sub-first : goal.overflow_sub-first
+overflow_sub-first c = let l = down_length (Value 0) c.args.self.now.items c.args.self.now.height in omega arith
 
 pub bounds-self-first : goal.bounds-self-first
 bounds-self-first c = let l = down_length (Value 0) c.args.self.now.items c.args.self.now.height in omega arith

@@ -9,13 +9,13 @@ loop-i-preserved c =
     let xs = c.loop-i.self.items in
     let ys = c.args.self.now.items in
     let i = c.loop-i.i in
-    let v = c.forgotten-by.result in
+    let v = c.forgotten_by.result in
     let inv = c.loop-i.invariant in
     let l : i < length xs = omega arith in (
       inv.0,
       below_more (λ (k : ℕ). get_or (set xs i v) k (Value 0) ≡ forgotten c.args.frame (get_or ys k (Value 0))) i
           (λ k h. let ne : k ≢ i = omega arith in get_or-set_other xs i k v (Value 0) ne ∙ inv.1 k h)
-          (get_or-set_same xs i v (Value 0) l ∙ c.forgotten-by.ensures ∙ ap (forgotten c.args.frame) (inv.2 i (omega arith))),
+          (get_or-set_same xs i v (Value 0) l ∙ c.forgotten_by.ensures ∙ ap (forgotten c.args.frame) (inv.2 i (omega arith))),
       λ k h. let ne : k ≢ i = omega arith in get_or-set_other xs i k v (Value 0) ne ∙ inv.2 k (omega arith),
     )
 

@@ -7,4 +7,4 @@ use Rattle.operands.proofs.stack.Operands.shrink.Goals as goal
 pub returns : goal.returns
 returns c =
     let s = c.args.self.now in
-    ap (down (Value 0) s.items) c.saturating-sub-self.ensures ∙ down_less (Value 0) s.items s.height c.args.count
+    ap (down (Value 0) s.items) c.saturating_sub-self.ensures ∙ down_less (Value 0) s.items s.height c.args.count

@@ -9,11 +9,11 @@ returns-then-piece-size c =
     let e = fits_not _ _ _ c.args.self.now.within k in
     record { answer = sym e; after = refused _ _ e; untouched = refl }
 
-pub invariant-of-self : goal.invariant-of-self
-invariant-of-self c =
+pub invariant_of-self : goal.invariant_of-self
+invariant_of-self c =
     let whole : c.args.self.now.len + length c.args.piece.now ≤ length c.args.self.now.room.bytes.now = omega (arith, c.if-piece-size.false, c.size.ensures, c.args.self.now.within) in
     let same : length c.put.new.self.bytes.now ≡ length c.args.self.now.room.bytes.now = ap length c.put.ensures ∙ put_length _ _ _ c.args.self.now.within whole in
-    (omega (arith, whole, same), tt)
+    record { within = omega (arith, whole, same) }
 
 pub returns : goal.returns
 returns c =
