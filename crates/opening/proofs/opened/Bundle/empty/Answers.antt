@@ -11,4 +11,7 @@ unreachable-requires c = some_defect empty_bundle _ c.in-Err.ensures.refused emp
 pub invariant_of-result : goal.invariant_of-result
 invariant_of-result c =
     let e = c.in-Ok.ensures in
-    (ap cause e.accepted ∙ empty_format, (∣ subst (λ (b : List ℕ). AllStand b) (sym e.accepted) empty_stands ∣₁, tt))
+    record {
+      format = ap cause e.accepted ∙ empty_format;
+      standing = ∣ subst (λ (b : List ℕ). AllStand b) (sym e.accepted) empty_stands ∣₁;
+    }

@@ -8,7 +8,7 @@ use Rattle.opening.proofs.opened.Bundle.«open».Goals as goal
 pub invariant_of-self : goal.invariant_of-self
 invariant_of-self c =
     let e = c.in-Ok.ensures in
-    (ap cause e.accepted ∙ sym e.lowest, (∣ c.in-None.ensures ∣₁, tt))
+    record { format = ap cause e.accepted ∙ sym e.lowest; standing = ∣ c.in-None.ensures ∣₁ }
 
 pub returns-in-Err : goal.returns-in-Err
 returns-in-Err c =
