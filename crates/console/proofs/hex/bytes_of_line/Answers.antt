@@ -9,5 +9,5 @@ loop-rest-preserved c =
     let rest = c.loop-rest.rest.now in
     let long : 2 ≤ length rest = search rules in
     let more = line_bytes_more rest (vec_items c.loop-rest.bytes) c.in-Some.byte long (sym c.in-Some.ensures) in
-    let items = c.in_ok-push.ensures.items in
+    let items = c.in_ok-push-in-Some.ensures.items in
     c.loop-rest.invariant ∙ more ∙ (λ i. preceded (sym items i) (line_bytes (sym (take_rest rest 2) i)))
