@@ -1,21 +1,21 @@
 -- Bundles whose records agree, read through numbers and offsets, hold the same program.
-use Rattle.std.proofs.Common.{◌≡◌, ℕ, ◌+◌, ◌<◌, Bool, true, false, cond, eqb, ◌⊎◌, List, [], Some, None, Option, unwrap_or, sym, refl, ap, ◌∙◌, subst, inl, inr, ⊎_elim}
+use Rattle.std.proofs.Common.{◌≡◌, ℕ, ◌+◌, Bool, true, false, cond, eqb, List, [], Some, None, unwrap_or, refl, ap, ◌∙◌, subst}
 use Rattle.std.specs.Option.{option_map}
-use Rattle.std.proofs.lemmas.Bool.{cases_Bool, eqb-true}
+use Rattle.std.proofs.lemmas.Bool.{eqb-true}
 use Rattle.layout.specs.Layout as layout
 use Rattle.layout.specs.declared.section.Section.TheVariants.{Templates}
 use Rattle.layout.specs.declared.records.InstructionRecord.{InstructionRecord}
 use Rattle.layout.specs.declared.records.ConstantRecord.{ConstantRecord}
 use Rattle.layout.proofs.Listed.{listed_same}
-use Rattle.instruction.specs.Program.{Const, Instr, Step, Code, Block, Template}
+use Rattle.instruction.specs.Program.{Instr, Step, Code, Block, Template}
 use Rattle.instruction.specs.Program.Const.{undefined, boolean, integer, string}
 use Rattle.instruction.specs.Program.Instr.{emit_raw}
-use Rattle.instruction.specs.Kinds.{Operands, operands, fields_of, fields, signed, constant_as, mode_of, decoded_as, decoded}
+use Rattle.instruction.specs.Kinds.{Operands, operands, fields_of, signed, constant_as, mode_of, decoded_as, decoded}
 use Rattle.instruction.specs.Kinds.Operands.{plain, text, counted, named, cached, constant, target, flags, mode, left_out}
-use Rattle.instruction.specs.Allowed.{Uses, uses}
+use Rattle.instruction.specs.Allowed.{uses}
 use Rattle.rules.specs.Rules.{template_name, block_name}
-use Rattle.bundle.specs.Decoded.{instruction, step, code, block, template, program}
-use Rattle.bundle.specs.Agreement.{SameConstant, SameInstruction, SameCode, SameBlock, SameTemplate, Agree, AgreeingBundlesHoldOneProgram}
+use Rattle.bundle.specs.Decoded.{instruction, step, code, block, template}
+use Rattle.bundle.specs.Agreement.{SameConstant, SameInstruction, SameCode, SameBlock, SameTemplate, AgreeingBundlesHoldOneProgram}
 
 -- a choice by a test, where each way is the same on both sides
 choose : {A : Type 0} (t : Bool) (x x' y y' : A) → (t ≡ true → x ≡ x') → y ≡ y' → cond t x y ≡ cond t x' y'

@@ -1,20 +1,19 @@
 -- What stands at a place of a code.
-use Rattle.std.proofs.Common.{◌≡◌, ℕ, ◌+◌, ◌<◌, ◌≤◌, Bool, true, false, cond, not, ◌||◌, eqb, ltb, leb, ◌⊎◌, List, [], is_some, Some, None, Option, unwrap_or, sym, refl, ap, ◌∙◌, subst, inl, inr, ⊎_elim, arith}
+use Rattle.std.proofs.Common.{◌≡◌, ℕ, ◌+◌, ◌<◌, ◌≤◌, Bool, true, false, cond, not, eqb, ltb, List, [], is_some, Some, None, Option, unwrap_or, sym, refl, ap, ◌∙◌, ⊎_elim, arith}
 use Rattle.std.specs.List.{slice_get}
 use Rattle.std.specs.Option.{option_map}
-use Rattle.std.proofs.lemmas.Bool.{cases_lt, cases_Bool, leb-true, eqb-true, eqb-false, lt-ltb, le-ltb, both_ways, or_cases, not-true, cond-true, cond-false}
+use Rattle.std.proofs.lemmas.Bool.{cases_lt, leb-true, eqb-false, lt-ltb, le-ltb, both_ways, or_cases, not-true, cond-true, cond-false}
 use Rattle.layout.specs.Layout as layout
 use Rattle.layout.specs.declared.section.Section.TheVariants.{Codes, Instructions, Constants}
 use Rattle.layout.specs.declared.records.CodeRecord.{CodeRecord}
 use Rattle.layout.specs.declared.records.InstructionRecord.{InstructionRecord}
 use Rattle.layout.specs.declared.records.ConstantRecord.{ConstantRecord}
 use Rattle.layout.proofs.Listed.{nth_listed, nth_past_listed}
-use Rattle.instruction.specs.Program.{Const, Instr, Step}
-use Rattle.instruction.specs.Program.Const.{undefined, boolean, integer, string}
+use Rattle.instruction.specs.Program.{Instr, Step}
 use Rattle.instruction.specs.Program.Instr.{emit_raw}
-use Rattle.instruction.specs.Kinds.{Operands, operands, fields_of, fields, signed, constant_as, constant_of, decoded_as, decoded}
+use Rattle.instruction.specs.Kinds.{Operands, operands, fields_of, fields, constant_as, constant_of, decoded_as, decoded}
 use Rattle.instruction.specs.Kinds.Operands.{plain, text, counted, named, cached, constant, target, flags, mode, left_out}
-use Rattle.instruction.specs.Allowed.{Uses, uses}
+use Rattle.instruction.specs.Allowed.{uses}
 use Rattle.rules.specs.Rules.{inside}
 use Rattle.rules.specs.declared.RecordRule.TheVariants.{CodeInstructions, InstructionConstant, InstructionKind, ConstantKind}
 use Rattle.rules.specs.declared.Rule.TheVariants.{Record}

@@ -1,15 +1,15 @@
 -- Every block, code and instruction of a bundle without causes 1 to 4 belongs to exactly one owner.
-use Rattle.std.proofs.Common.{◌≡◌, ℕ, ◌+◌, ◌-◌, ◌<◌, ◌≤◌, Bool, true, false, cond, ◌&&◌, ltb, leb, ◌⊎◌, List, sym, refl, ap, ◌∙◌, subst, inl, inr, ⊎_elim, arith}
+use Rattle.std.proofs.Common.{◌≡◌, ℕ, ◌+◌, ◌-◌, ◌<◌, ◌≤◌, true, ltb, leb, List, sym, refl, ap, ◌∙◌, ⊎_elim, arith}
 use Rattle.std.proofs.lemmas.Bool.{cases_lt, and_parts, and_from, leb-true, ltb-true, le-leb, lt-ltb, eqb-true, cond-true, cond-false, le-ltb}
-use Rattle.layout.specs.Layout.{records, template, block, code}
-use Rattle.layout.specs.declared.section.Section.TheVariants.{Templates, Blocks, Codes, Instructions}
+use Rattle.layout.specs.Layout.{records, template, block}
+use Rattle.layout.specs.declared.section.Section.TheVariants.{Templates, Blocks}
 use Rattle.layout.proofs.CountBelow.{OnlyOne, only_one}
 use Rattle.rules.specs.Rules.{names, owners, namers, owned_in, run_start, run_end, code_named_by}
 use Rattle.rules.specs.declared.Owned.{Owned}
 use Rattle.rules.specs.declared.Owned.TheVariants.{Block, Code, Instruction}
 use Rattle.rules.specs.declared.Rule.TheVariants.{Owner}
-use Rattle.causes.specs.Causes.{cause, reference_rules, kept}
-use Rattle.bundle.specs.Owners.{ExactlyOne, InRun, OwnsBlock, CodeOwner, OwnsCode, OwnsInstruction, OwnedOnce, RecordsHaveOneOwner}
+use Rattle.causes.specs.Causes.{reference_rules, kept}
+use Rattle.bundle.specs.Owners.{ExactlyOne, OwnsBlock, CodeOwner, OwnsCode, OwnsInstruction, RecordsHaveOneOwner}
 use Rattle.bundle.specs.Owners.CodeOwner.{of_template, of_block}
 use Rattle.bundle.proofs.Kept.{clean, kept_at, keeps_at}
 

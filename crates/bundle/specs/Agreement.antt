@@ -6,7 +6,7 @@ use Rattle.layout.specs.declared.section.Section.TheVariants.{Templates}
 use Rattle.layout.specs.declared.records.InstructionRecord.{InstructionRecord}
 use Rattle.layout.specs.declared.records.ConstantRecord.{ConstantRecord}
 use Rattle.instruction.specs.Kinds.{fields}
-use Rattle.instruction.specs.Allowed.{Uses, uses}
+use Rattle.instruction.specs.Allowed.{uses}
 use Rattle.rules.specs.Rules.{template_name, block_name}
 use Rattle.bundle.specs.Decoded.{program}
 

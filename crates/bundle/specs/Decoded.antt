@@ -1,6 +1,6 @@
 -- The program that a bundle holds, as plain data: records read through their numbers, names and texts through their offsets.
 -- It assumes nothing of the bytes; only a bundle without causes 1 to 4 is ever run.
-use Rattle.std.specs.Prelude.{ℕ, ◌+◌, Bool, cond, List, [], Some, None, Option, ◌==◌, nat_lt}
+use Rattle.std.specs.Prelude.{ℕ, ◌+◌, cond, List, [], Some, None, Option, ◌==◌, nat_lt}
 use Rattle.std.specs.Option.{unwrap_or}
 use Rattle.layout.specs.Bounded.{listed}
 use Rattle.layout.specs.Layout as layout

@@ -1,11 +1,11 @@
 -- The different block names so far, each by the first block that has it.
-use Rattle.std.proofs.Common.{◌≡◌, ℕ, suc, ◌+◌, ◌<◌, ◌≤◌, Bool, true, false, not, leb, ◌≢◌, ◌⊎◌, List, length, get_or, take, set, replicate, sym, refl, ap, ◌∙◌, subst, inl, inr, ⊎_elim, add-one, arith}
+use Rattle.std.proofs.Common.{◌≡◌, ℕ, ◌+◌, ◌<◌, ◌≤◌, true, false, not, ◌≢◌, List, length, get_or, take, set, sym, refl, ap, ◌∙◌, subst, ⊎_elim, add-one, arith}
 use Rattle.std.specs.Str.{bytes_eq}
 use Rattle.std.proofs.lemmas.Slice.Eq.{bytes_eq-Decides}
 use Rattle.std.proofs.lemmas.List.{get_or-set_same, get_or-set_other, length-set, get_or-take, length-take-le}
-use Rattle.std.proofs.lemmas.Bool.{cases_eq, cases_Bool, both_ways, not-true, not-false, le-leb, lt-leb, not_from_true, not_from_false}
-use Rattle.layout.specs.Bounded.{count, each}
-use Rattle.layout.proofs.EachBelow.{each_more, each_from, each_at, each_not, each_breaks}
+use Rattle.std.proofs.lemmas.Bool.{cases_eq, cases_Bool, not-false, le-leb, lt-leb, not_from_true}
+use Rattle.layout.specs.Bounded.{count}
+use Rattle.layout.proofs.EachBelow.{each_from, each_at, each_not, each_breaks}
 use Rattle.layout.proofs.CountBelow.{count_yes, count_no}
 use Rattle.rules.specs.Rules.{block_name, new_name, other_name, keeps}
 use Rattle.rules.specs.declared.Rule.TheVariants.{BlockNameLimit}

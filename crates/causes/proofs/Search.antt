@@ -1,9 +1,9 @@
 -- The first broken rule in the order of the rules shows the lowest cause.
-use Rattle.std.proofs.Common.{◌≡◌, ℕ, zero, suc, ◌+◌, ◌<◌, ◌≤◌, Bool, true, false, cond, ◌&&◌, ◌||◌, ◌⊎◌, List, [], ◌∷◌, ◌++◌, length, get_or, drop, Some, None, Option, sym, refl, ap, ◌∙◌, subst, inl, inr, ⊎_elim, arith}
+use Rattle.std.proofs.Common.{◌≡◌, ℕ, zero, suc, ◌+◌, ◌<◌, ◌≤◌, true, false, cond, List, [], ◌∷◌, ◌++◌, length, get_or, drop, Some, None, Option, sym, refl, ap, ◌∙◌, subst, ⊎_elim, arith}
 use Rattle.std.proofs.lemmas.List.{at_drop_more, at_drop_all, append-nil}
-use Rattle.std.proofs.lemmas.Bool.{cases_Bool, and_parts, and_from, and_cases, both_ways, or_left, or_right}
-use Rattle.layout.specs.Bounded.{each, first_or, first_not}
-use Rattle.layout.proofs.EachBelow.{first_not_none, first_not_is, each_breaks, each_unless_first}
+use Rattle.std.proofs.lemmas.Bool.{cases_Bool, and_parts, and_cases, both_ways, or_left, or_right}
+use Rattle.layout.specs.Bounded.{first_or}
+use Rattle.layout.proofs.EachBelow.{first_not_none, first_not_is, each_breaks}
 use Rattle.rules.specs.Rules.{keeps, scope}
 use Rattle.rules.specs.declared.Rule.{Rule}
 use Rattle.causes.specs.Causes.{header_rules, reference_rules, field_rules, name_rules, body_rules, kept, all_kept, cause, number, breach, blamed, first_defect, defect, cause_of}

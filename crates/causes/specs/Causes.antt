@@ -1,5 +1,5 @@
 -- The causes 1 to 4: a cause holds where some record breaks a rule of its number. The lowest one counts.
-use Rattle.std.specs.Prelude.{ℕ, zero, suc, Bool, true, false, cond, ◌&&◌, List, [], ◌∷◌, ◌++◌, Some, None, Option}
+use Rattle.std.specs.Prelude.{ℕ, Bool, true, cond, ◌&&◌, List, [], ◌∷◌, ◌++◌, Some, None, Option}
 use Rattle.layout.specs.Bounded.{each, first_or, first_not}
 use Rattle.layout.specs.declared.section.Section.TheVariants.{Templates, Blocks, Codes, Instructions, Constants, Text}
 use Rattle.rules.specs.Rules.{keeps, scope}

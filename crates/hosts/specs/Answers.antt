@@ -1,7 +1,6 @@
 -- What a host answers to each call, and what it means after it.
-use Rattle.std.specs.Prelude.{ℕ, Bool, true, false, cond, ◌&&◌, List, [], ◌∷◌, length, take, ℤ, Some, None, Ok, Err, Option, Result, nat_le, nat_lt}
-use Rattle.hosts.specs.Values.{Value}
-use Rattle.hosts.specs.Meaning.{Given, fault, given, Rules, Meaning, room, grown}
+use Rattle.std.specs.Prelude.{ℕ, Bool, true, cond, ◌&&◌, List, [], ◌∷◌, length, take, ℤ, Some, None, Ok, Err, Option, Result, nat_le, nat_lt}
+use Rattle.hosts.specs.Meaning.{Given, fault, given, Meaning, room, grown}
 use Rattle.hosts.specs.declared.Refusal.{Refusal}
 use Rattle.hosts.specs.declared.Refusal.TheVariants.{Fault, Full}
 use Rattle.hosts.specs.declared.Reading.{Reading}

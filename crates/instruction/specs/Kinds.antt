@@ -1,5 +1,5 @@
 -- The kinds of instruction: which number names which one, and which fields of the record it takes.
-use Rattle.std.specs.Prelude.{ℕ, ◌-◌, ◌^◌, Bool, true, false, cond, List, ℤ, pos, negsuc, Some, None, Option, ◌==◌, nat_lt}
+use Rattle.std.specs.Prelude.{ℕ, ◌-◌, ◌^◌, true, false, cond, List, ℤ, pos, negsuc, Some, None, Option, ◌==◌, nat_lt}
 use Rattle.std.specs.Option.{option_map}
 use Rattle.layout.specs.declared.records.InstructionRecord.{InstructionRecord}
 use Rattle.layout.specs.declared.records.ConstantRecord.{ConstantRecord}

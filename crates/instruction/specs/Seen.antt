@@ -1,5 +1,4 @@
 -- What the values of the code mean: a reference is what it points to.
-use Rattle.std.specs.Prelude.{Some, None, Option}
 use Rattle.instruction.specs.Program.{Const, Mode, Instr}
 use Rattle.instruction.specs.Program.Const.{undefined, boolean, integer, string}
 use Rattle.instruction.specs.Program.Mode.{keep, discard}

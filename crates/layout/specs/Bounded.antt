@@ -1,5 +1,5 @@
 -- What is said of every number below a bound. It assumes nothing.
-use Rattle.std.specs.Prelude.{ℕ, zero, suc, ◌+◌, Bool, true, false, cond, ◌&&◌, List, map, Some, None, Option}
+use Rattle.std.specs.Prelude.{ℕ, zero, suc, ◌+◌, Bool, true, cond, ◌&&◌, List, map, Some, None, Option}
 use Rattle.std.specs.List.{range_with_len}
 
 -- `p` is true of each number below the bound

@@ -1,23 +1,21 @@
 -- Each step, and so every run, only adds to the world, and a fault writes nothing.
-use Rattle.std.proofs.Common.{◌≡◌, ℕ, zero, suc, ◌+◌, ◌-◌, Bool, true, false, cond, eqb, ltb, leb, ◌⊎◌, List, [], ◌∷◌, ◌++◌, length, Some, None, codes, Option, sym, refl, ap, ◌∙◌, subst, inl, inr, ⊎_elim}
+use Rattle.std.proofs.Common.{◌≡◌, ℕ, zero, suc, ◌+◌, Bool, true, false, cond, eqb, leb, ◌⊎◌, List, [], ◌∷◌, length, Some, None, codes, Option, sym, refl, subst, inl, inr, ⊎_elim}
 use Rattle.std.specs.Str.{bytes_eq}
-use Rattle.std.proofs.lemmas.Bool.{cases_Bool}
 use Rattle.hosts.specs.declared.Unary.{Unary}
 use Rattle.hosts.specs.declared.Binary.{Binary}
 use Rattle.sinks.specs.Taking.{Taking, accepts, offered}
 use Rattle.instruction.specs.Program.{Instr, Step, Program}
 use Rattle.machine.specs.declared.fault.Fault.{Fault}
-use Rattle.machine.specs.declared.fault.Fault.TheVariants.{OutOfFuel, WriteFailure}
+use Rattle.machine.specs.declared.fault.Fault.TheVariants.{WriteFailure}
 use Rattle.machine.specs.Outline.{Shape, shapes, main_of}
-use Rattle.operands.specs.declared.operand.Operand.{Operand}
-use Rattle.operands.specs.declared.operand.Operand.TheVariants.{Value as value, Loop as a_loop, Ended as ended}
-use Rattle.machine.specs.State.{Slots, Act, Bone, base, scope, block, loop, Frame, Capture, dropped, kept, World, Body, Control, Failure, Outcome, done, failed, Progress, running, finished, stuck, scratch_size, with_frames, with_captures, with_sink, with_slots}
+use Rattle.operands.specs.declared.operand.Operand.TheVariants.{Value as value}
+use Rattle.machine.specs.State.{Slots, Act, Bone, base, scope, block, loop, Frame, Capture, dropped, kept, World, Body, Control, done, failed, Progress, running, finished, stuck, scratch_size, with_frames, with_captures, with_sink, with_slots}
 use Rattle.machine.specs.Parts.{Part, does, bad, stuck as no_rule, bind, fails, pop_plain, push, end_first, spell, write_to, write, scratch}
 use Rattle.machine.specs.Instructions as by
-use Rattle.machine.specs.Inheritance.{execute, stays, call_super, perform_super, call_block, load_blocks}
-use Rattle.machine.specs.Run.{Limits, Run, run, step, steps, charged_step, current, is_out, is_over, run_parent, over_in, main_ends, by_part, by_step, end_of, follow, settle, perform, fault_at, returned, call_line}
-use Rattle.machine.specs.Laws.{Grown, Taken, nothing, a_piece, Onward, To, From, WorldOnlyGrows, FaultsWriteNothing}
-use Rattle.machine.proofs.Steps.{ended_stays, stuck_stays}
+use Rattle.machine.specs.Inheritance.{execute, stays, perform_super, call_block, load_blocks}
+use Rattle.machine.specs.Run.{Limits, Run, run, step, steps, charged_step, current, is_out, is_over, run_parent, over_in, main_ends, by_part, by_step, end_of, follow, settle, perform, returned}
+use Rattle.machine.specs.Laws.{Taken, nothing, a_piece, Onward, To, From, WorldOnlyGrows, FaultsWriteNothing}
+use Rattle.machine.proofs.Steps.{stuck_stays}
 use Rattle.machine.proofs.World.{grown_same, grown_on, Quietly, quietly_same, Silent, pop_plain_silent, spell_silent, push_captured_silent}
 use Rattle.machine.proofs.Quiet as quiet
 

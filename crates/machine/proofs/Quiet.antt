@@ -1,8 +1,7 @@
 -- No instruction but EmitRaw and Emit reaches the sink.
-use Rattle.std.proofs.Common.{◌≡◌, ℕ, suc, ◌+◌, Bool, true, false, cond, ◌&&◌, ◌||◌, eqb, ltb, leb, List, [], ◌∷◌, length, get_or, pos, Some, None, Ok, Err, codes, Option, Result, refl}
-use Rattle.std.specs.Str.{bytes_eq}
+use Rattle.std.proofs.Common.{ℕ, suc, Bool, true, false, cond, ◌&&◌, ◌||◌, eqb, ltb, List, [], ◌∷◌, length, get_or, pos, Some, None, Ok, Err, Option, Result}
 use Rattle.hosts.specs.Meaning.{Meaning, Given}
-use Rattle.hosts.specs.Answers.{found, after_found, looks_up, gets_attr, gets_item, counts, iterates, truth, text_test, makes_integer, makes_text, makes_list, unary_gives, binary_gives, filters, tests, calls}
+use Rattle.hosts.specs.Answers.{found, looks_up, gets_attr, gets_item, counts, iterates, truth, text_test, makes_integer, makes_text, makes_list, unary_gives, binary_gives, filters, tests, calls}
 use Rattle.hosts.specs.declared.Refusal.{Refusal}
 use Rattle.hosts.specs.declared.Unary.{Unary}
 use Rattle.hosts.specs.declared.Binary.{Binary}
@@ -10,13 +9,13 @@ use Rattle.instruction.specs.Program.{Const, undefined, boolean, integer, string
 use Rattle.machine.specs.Outline.{Place, same_place, Shape, Ref, required_at, template, row_number, defs_at, def_at}
 use Rattle.operands.specs.declared.operand.Operand.{Operand}
 use Rattle.operands.specs.declared.operand.Operand.TheVariants.{Value as value, Loop as a_loop, Ended as ended}
-use Rattle.machine.specs.State.{Back, Slots, Act, Loop, Bone, base, scope, block, loop, Frame, World, Body, Control, Capture, kept, dropped, most_locals, most_loads, with_frames, past}
-use Rattle.machine.specs.Parts.{Part, does, bad, stuck, bind, pop, pop_all, push, live, plain, plain_all, pop_plain, ask, read, push_asked, begin_capture, push_captured, push_frame, spell, truth_code}
+use Rattle.machine.specs.State.{Back, Slots, Act, Loop, Bone, base, scope, block, loop, Frame, World, Body, Control, kept, dropped, most_locals, most_loads, with_frames, past}
+use Rattle.machine.specs.Parts.{does, bind, pop, pop_all, push, live, plain_all, pop_plain, ask, read, push_asked, begin_capture, push_captured, push_frame, spell, truth_code}
 use Rattle.machine.specs.Loops.{frame, has_local, locals_of, store_in, store, Lap, innermost, lap_at, from_host, look_on, look, find, or_undefined, tells, Attribute, index, length', first, last, depth, no_other, attribute, is_known, tell, tell_of, turn, did_not_iterate, is_last, swept, capture_if, recurse}
 use Rattle.machine.specs.Instructions as by
 use Rattle.machine.specs.Inheritance as up
 use Rattle.machine.specs.Laws.{Grown}
-use Rattle.machine.proofs.World.{Quietly, Silent, bind_silent, either_silent, quietly_on, after_found_grown, pop_silent, pop_all_silent, push_silent, live_silent, plain_silent, plain_all_silent, pop_plain_silent, refused_silent, ask_silent, read_silent, push_asked_silent, spell_silent, begin_capture_silent, push_captured_silent, push_frame_silent}
+use Rattle.machine.proofs.World.{Quietly, Silent, bind_silent, either_silent, quietly_on, after_found_grown, pop_silent, pop_all_silent, push_silent, live_silent, plain_all_silent, pop_plain_silent, refused_silent, ask_silent, read_silent, push_asked_silent, spell_silent, begin_capture_silent, push_captured_silent, push_frame_silent}
 
 module _ (v : World) where
   -- loops and names

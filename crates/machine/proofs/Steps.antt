@@ -1,9 +1,9 @@
 -- Steps in parts, charges, ended runs, and runs on two amounts of fuel.
-use Rattle.std.proofs.Common.{◌≡◌, ℕ, zero, suc, ◌+◌, Bool, true, false, cond, ◌⊎◌, List, [], ◌∷◌, ◌++◌, Some, None, Option, sym, refl, ap, ◌∙◌, subst, inl, inr, ⊎_elim, append_assoc, add-zero, add_assoc, suc-add, zero-add, arith}
+use Rattle.std.proofs.Common.{◌≡◌, ℕ, zero, suc, ◌+◌, Bool, true, false, cond, ◌⊎◌, List, [], ◌∷◌, ◌++◌, Some, None, Option, sym, refl, ap, ◌∙◌, subst, inl, inr, ⊎_elim, append_assoc, add-zero, suc-add, zero-add, arith}
 use Rattle.instruction.specs.Program.{Instr, Step, Program}
 use Rattle.machine.specs.declared.fault.Fault.TheVariants.{OutOfFuel}
-use Rattle.machine.specs.State.{World, Body, Control, Failure, Outcome, failed, Progress, running, finished, stuck}
-use Rattle.machine.specs.Run.{Limits, Run, run, step, steps, executed, charges, charge, charged_step, current, next_of, instruction_of, is_out, fault_at, perform}
+use Rattle.machine.specs.State.{World, Body, Control, Failure, failed, Progress, running, finished, stuck}
+use Rattle.machine.specs.Run.{Limits, Run, run, step, steps, executed, charges, charge, charged_step, current, next_of, instruction_of, is_out, perform}
 use Rattle.machine.specs.Laws.{StepsSplit, RanOutOfFuel, EndedRunsStay, FuelDoesNotShow, FuelIsTheSumOfCharges}
 
 pub steps_more : (p : Program) (l : Limits) (m n : ℕ) (r : Run) → steps p l (m + n) r ≡ steps p l n (steps p l m r)

@@ -1,16 +1,14 @@
 -- What parts and instructions do to the world: the host grows, and only `write` reaches the sink.
-use Rattle.std.proofs.Common.{◌≡◌, ℕ, suc, ◌+◌, ◌-◌, Bool, true, false, cond, eqb, ltb, leb, List, [], ◌∷◌, ◌++◌, length, Some, None, Ok, Err, Option, Result, sym, refl, ap, ◌∙◌, subst, append_assoc, append-nil}
+use Rattle.std.proofs.Common.{◌≡◌, ℕ, ◌+◌, ◌-◌, Bool, true, false, cond, ltb, leb, List, [], ◌∷◌, ◌++◌, length, Some, None, Ok, Err, Option, Result, sym, refl, ap, ◌∙◌, append_assoc, append-nil}
 use Rattle.hosts.specs.Values.{Value}
 use Rattle.hosts.specs.Meaning.{Meaning, Given, fault, given, room, grown}
-use Rattle.hosts.specs.Answers.{answer, after, found, after_found, shows, makes_text}
+use Rattle.hosts.specs.Answers.{answer, after, after_found, shows, makes_text}
 use Rattle.hosts.specs.declared.Refusal.{Refusal}
 use Rattle.hosts.specs.declared.Refusal.TheVariants.{Fault as Faulty, Full as HostIsFull}
-use Rattle.sinks.specs.Taking.{Taking, accepts, offered}
-use Rattle.machine.specs.declared.fault.Fault.{Fault}
 use Rattle.operands.specs.declared.operand.Operand.{Operand}
 use Rattle.operands.specs.declared.operand.Operand.TheVariants.{Value as value, Loop as a_loop, Ended as ended}
-use Rattle.machine.specs.State.{Frame, Capture, dropped, kept, World, Body, most_captures, scratch_size, with_operands, with_frames, with_captures, with_host}
-use Rattle.machine.specs.Parts.{Part, does, bad, stuck, bind, fails, pop_from, pop, pop_all, push, live, plain, plain_all, pop_plain, refused, answered, ask, told, read, push_asked, write_to, write, spell, begin_capture, end_first, end_capture, push_captured, push_frame, scratch}
+use Rattle.machine.specs.State.{Frame, Capture, dropped, kept, World, Body, most_captures, scratch_size, with_captures}
+use Rattle.machine.specs.Parts.{Part, does, bad, stuck, bind, pop_from, pop, pop_all, push, live, plain, plain_all, pop_plain, refused, answered, ask, told, read, push_asked, spell, begin_capture, end_first, end_capture, push_captured, push_frame, scratch}
 use Rattle.machine.specs.Laws.{Grown}
 
 pub grown_none : (m : Meaning) → m ≡ grown m []

@@ -1,15 +1,14 @@
 -- The instructions that load templates and enter definitions of blocks, and the whole set. It assumes nothing.
-use Rattle.std.specs.Prelude.{ℕ, suc, Bool, true, false, cond, List, [], ◌∷◌, length, replicate, Some, None, codes, Option, ◌==◌, nat_lt, slice_index, slice_set}
+use Rattle.std.specs.Prelude.{ℕ, suc, Bool, true, false, cond, List, [], ◌∷◌, length, Some, None, codes, Option, ◌==◌, nat_lt, slice_index, slice_set}
 use Rattle.std.specs.Str.{bytes_eq}
-use Rattle.instruction.specs.Program.{Instr, Step}
+use Rattle.instruction.specs.Program.{Instr}
 use Rattle.hosts.specs.Answers.{text_test}
 use Rattle.hosts.specs.declared.Unary.{Unary}
 use Rattle.hosts.specs.declared.Binary.{Binary}
-use Rattle.machine.specs.declared.fault.Fault.{Fault}
-use Rattle.machine.specs.declared.fault.Fault.TheVariants.{Full, TemplateNotFound, BadExtend, EighthLoad, UnknownBlock, RequiredBlock, BadSuper}
-use Rattle.machine.specs.Outline.{Shape, Ref, Place, main, block as a_Block, Row, template, required_at, with_blocks, row_number, defs_at, def_at}
-use Rattle.machine.specs.State.{Slots, Act, Caller, Bone, block, Capture, dropped, kept, Body, Control, most_loads, most_rows, with_slots, past, first_slots}
-use Rattle.machine.specs.Parts.{Part, does, bad, stuck, bind, fails, pop_plain, read, spell, begin_capture, push_frame}
+use Rattle.machine.specs.declared.fault.Fault.TheVariants.{TemplateNotFound, BadExtend, EighthLoad, UnknownBlock, RequiredBlock, BadSuper}
+use Rattle.machine.specs.Outline.{Shape, Ref, block as a_Block, template, required_at, with_blocks, row_number, defs_at, def_at}
+use Rattle.machine.specs.State.{Slots, Act, Caller, block, Capture, dropped, kept, Body, Control, most_loads, with_slots, past, first_slots}
+use Rattle.machine.specs.Parts.{Part, does, bind, fails, pop_plain, read, spell, begin_capture, push_frame}
 use Rattle.machine.specs.Loops.{frame, capture_if}
 use Rattle.machine.specs.Instructions as by
 

@@ -1,6 +1,6 @@
 -- The instructions that stay in their code and neither see nor change the rows of blocks, in the order of their kinds.
 -- Each takes the code that runs and gives what is new of it. It assumes nothing.
-use Rattle.std.specs.Prelude.{ℕ, suc, ◌+◌, ◌%◌, Bool, true, false, cond, ◌||◌, List, [], ◌∷◌, length, Some, None, Option, ◌==◌, nat_le, nat_lt, slice_index_or, slice_set}
+use Rattle.std.specs.Prelude.{ℕ, ◌%◌, Bool, true, false, cond, ◌||◌, List, [], ◌∷◌, length, Some, None, Option, ◌==◌, nat_le, nat_lt, slice_index_or, slice_set}
 use Rattle.instruction.specs.Program.{Const, undefined, boolean, integer, string, Mode, keep, discard}
 use Rattle.hosts.specs.Answers.{gets_attr, gets_item, counts, iterates, truth, makes_integer, makes_text, makes_list, unary_gives, binary_gives, filters as filter_gives, tests as test_gives, calls}
 use Rattle.hosts.specs.declared.Unary.{Unary}
@@ -9,7 +9,7 @@ use Rattle.machine.specs.declared.fault.Fault.TheVariants.{BadLoop, Unknown}
 use Rattle.operands.specs.declared.operand.Operand.{Operand}
 use Rattle.operands.specs.declared.operand.Operand.TheVariants.{Value as value, Loop as a_loop, Ended as ended}
 use Rattle.machine.specs.State.{Back, Recursion, Slots, Act, Loop, Bone, base as the_base, scope, block, loop, Frame, Capture, dropped, kept, Body, with_operands, with_frames, to, past}
-use Rattle.machine.specs.Parts.{Part, does, bad, stuck, bind, fails, pop, pop_all, push, live, plain, plain_all, pop_plain, ask, read, push_asked, truth_code, write, spell, begin_capture, push_captured, push_frame}
+use Rattle.machine.specs.Parts.{Part, does, stuck, bind, fails, pop, pop_all, push, live, plain_all, pop_plain, ask, read, push_asked, truth_code, write, spell, begin_capture, push_captured, push_frame}
 use Rattle.machine.specs.Loops.{frame, store, Lap, innermost, lap_at, find, or_undefined, tells, attribute, tell_of, turn, did_not_iterate, swept, recurse}
 
 -- on to the next instruction

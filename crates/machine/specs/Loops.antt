@@ -1,15 +1,15 @@
 -- Frames, names and loops. It assumes nothing.
-use Rattle.std.specs.Prelude.{ℕ, zero, suc, ◌+◌, min, Bool, true, false, cond, ◌&&◌, ◌||◌, List, [], ◌∷◌, map, length, pos, Some, None, Ok, Err, codes, Option, Result, ◌==◌, nat_lt}
+use Rattle.std.specs.Prelude.{ℕ, suc, ◌+◌, min, Bool, true, false, cond, ◌&&◌, ◌||◌, List, [], ◌∷◌, map, length, pos, Some, None, Ok, Err, codes, Option, Result, ◌==◌, nat_lt}
 use Rattle.std.specs.Str.{bytes_eq}
-use Rattle.hosts.specs.Meaning.{Meaning, Given}
+use Rattle.hosts.specs.Meaning.{Meaning}
 use Rattle.hosts.specs.Answers.{found, after_found, looks_up, makes_integer}
 use Rattle.hosts.specs.declared.Refusal.{Refusal}
-use Rattle.machine.specs.declared.fault.Fault.TheVariants.{Full, BadLoop, Unknown}
+use Rattle.machine.specs.declared.fault.Fault.TheVariants.{Full, BadLoop}
 use Rattle.machine.specs.Outline.{Place, same_place}
 use Rattle.operands.specs.declared.operand.Operand.{Operand}
 use Rattle.operands.specs.declared.operand.Operand.TheVariants.{Value as value, Loop as a_loop, Ended as ended}
-use Rattle.machine.specs.State.{Back, Recursion, Slots, Loop, Bone, base, scope, block, loop, Local, Frame, Capture, kept, Body, most_locals, with_operands, with_frames, with_host, to, past}
-use Rattle.machine.specs.Parts.{Part, does, bad, stuck, bind, fails, push, push_asked, refused, begin_capture, truth_code}
+use Rattle.machine.specs.State.{Slots, Loop, Bone, base, scope, block, loop, Local, Frame, kept, Body, most_locals, with_operands, with_frames, with_host}
+use Rattle.machine.specs.Parts.{Part, does, stuck, bind, fails, push, push_asked, refused, begin_capture, truth_code}
 
 abbrev pub frame : Bone → Frame
 frame b = record { bone = b; locals = []; turns = 0 }

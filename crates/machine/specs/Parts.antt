@@ -1,5 +1,5 @@
 -- The parts that instructions are made of. Each has at most one fault of its own. It assumes nothing.
-use Rattle.std.specs.Prelude.{ℕ, ◌+◌, ◌-◌, Bool, true, false, cond, List, [], ◌∷◌, ◌++◌, reverse, length, take, drop, Some, None, Ok, Err, Option, Result, nat_le, nat_lt}
+use Rattle.std.specs.Prelude.{ℕ, ◌+◌, ◌-◌, Bool, true, false, cond, List, [], ◌∷◌, ◌++◌, reverse, length, take, drop, Ok, Err, Result, nat_le, nat_lt}
 use Rattle.hosts.specs.Meaning.{Meaning, Given}
 use Rattle.hosts.specs.Answers.{answer, after, shows, makes_text}
 use Rattle.hosts.specs.declared.Refusal.{Refusal}

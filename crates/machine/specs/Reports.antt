@@ -1,8 +1,7 @@
 -- What is told of a run that has ended: its output, its outcome by numbers, and its fuel.
-use Rattle.std.specs.Prelude.{ℕ, Bool, List, [], Some, None, Option}
-use Rattle.machine.specs.declared.fault.Fault.{Fault}
+use Rattle.std.specs.Prelude.{ℕ, List, Some, None, Option}
 use Rattle.machine.specs.Faults.{number}
-use Rattle.machine.specs.State.{World, Failure, Outcome, done, failed, Progress, running, finished, stuck}
+use Rattle.machine.specs.State.{Outcome, done, failed, Progress, running, finished, stuck}
 use Rattle.machine.specs.Run.{Run}
 
 -- the number of the fault, or 0 where the text is whole

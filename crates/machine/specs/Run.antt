@@ -1,10 +1,10 @@
 -- Runs: where codes end, one step, many steps, what is charged. It assumes nothing.
-use Rattle.std.specs.Prelude.{ℕ, zero, suc, ◌+◌, ◌-◌, Bool, true, false, cond, ◌&&◌, List, [], ◌∷◌, ◌++◌, length, replicate, Some, None, Option, ◌==◌, nat_le, slice_set}
+use Rattle.std.specs.Prelude.{ℕ, zero, suc, ◌+◌, ◌-◌, Bool, cond, ◌&&◌, List, [], ◌∷◌, ◌++◌, length, replicate, Some, None, Option, ◌==◌, nat_le, slice_set}
 use Rattle.instruction.specs.Program.{Instr, Step, Program}
 use Rattle.machine.specs.declared.fault.Fault.{Fault}
 use Rattle.machine.specs.declared.fault.Fault.TheVariants.{OutOfFuel}
-use Rattle.machine.specs.Outline.{Shape, Place, main, template_of, shapes, main_of, code_at, step_at, line_of, with_blocks}
-use Rattle.machine.specs.State.{Slots, Act, Caller, Bone, base, scope, block, loop, Frame, Capture, World, Body, Control, Failure, Outcome, done, failed, Progress, running, finished, stuck, most_rows, with_frames, with_captures, first_slots}
+use Rattle.machine.specs.Outline.{Place, main, template_of, shapes, main_of, code_at, step_at, line_of, with_blocks}
+use Rattle.machine.specs.State.{Act, Caller, Bone, base, scope, block, loop, Frame, Capture, World, Body, Control, done, failed, Progress, running, finished, stuck, most_rows, with_frames, with_captures, first_slots}
 use Rattle.machine.specs.Parts.{Part, does, bad, stuck as no_rule}
 use Rattle.machine.specs.Loops.{frame}
 use Rattle.machine.specs.Instructions.{capture_ends_if}

@@ -1,8 +1,8 @@
 -- The state of a run. Operands, frames and captures are lists whose first element is the innermost. It assumes nothing.
-use Rattle.std.specs.Prelude.{ℕ, suc, Bool, true, false, List, [], ◌∷◌, replicate, Some, None, Option}
+use Rattle.std.specs.Prelude.{ℕ, suc, Bool, List, replicate, None, Option}
 use Rattle.hosts.specs.Meaning.{Meaning}
 use Rattle.sinks.specs.Taking.{Taking}
-use Rattle.machine.specs.Outline.{Place, Ref, Row}
+use Rattle.machine.specs.Outline.{Place, Row}
 use Rattle.machine.specs.declared.fault.Fault.{Fault}
 use Rattle.operands.specs.declared.operand.Operand.{Operand}
 

@@ -1,5 +1,5 @@
 -- The smallest bundle opens.
-use Rattle.std.proofs.Common.{◌≡◌, ℕ, ◌<◌, refl, arith}
+use Rattle.std.proofs.Common.{◌≡◌, refl, arith}
 use Rattle.causes.specs.Causes.{cause}
 use Rattle.opening.specs.Opening.{AllStand, empty_bundle}
 

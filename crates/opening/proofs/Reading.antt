@@ -1,5 +1,5 @@
 -- The shapes of a code, read one by one.
-use Rattle.std.proofs.Common.{◌≡◌, ℕ, zero, suc, ◌+◌, ◌<◌, ◌≤◌, List, [], ◌∷◌, map, length, get_or, take, Some, None, Option, sym, refl, ap, ◌∙◌, subst, arith}
+use Rattle.std.proofs.Common.{◌≡◌, ℕ, zero, suc, ◌+◌, ◌<◌, ◌≤◌, List, [], ◌∷◌, map, length, get_or, take, Some, None, sym, ap, ◌∙◌, arith}
 use Rattle.std.specs.List.{slice_get}
 use Rattle.std.specs.Option.{option_map}
 use Rattle.std.proofs.lemmas.List.{length-map, length-take-le, get_or-take, same_lists, get_or_default}
@@ -16,7 +16,7 @@ use Rattle.rules.specs.declared.Rule.TheVariants.{Record}
 use Rattle.causes.specs.Causes.{cause, field_rules}
 use Rattle.bundle.specs.Decoded.{code, step}
 use Rattle.bundle.proofs.Kept.{clean, kept_at, keeps_at}
-use Rattle.opening.specs.Shapes.{shape, shapes}
+use Rattle.opening.specs.Shapes.{shape}
 use Rattle.opening.specs.Opening.{code_shapes}
 
 pub shape_of_nth : (xs : List Step) (k : ℕ) (y : Instr) (d : Shape) → Some y ≡ option_map (λ s. s.instruction) (slice_get xs k)

@@ -1,12 +1,12 @@
 -- Instructions that no path reaches have no part in whether a code stands.
-use Rattle.std.proofs.Common.{◌≡◌, ℕ, ◌<◌, ◌≤◌, List, length, None, sym, refl, ap, ◌∙◌, subst, arith}
+use Rattle.std.proofs.Common.{◌≡◌, ℕ, ◌<◌, List, length, None, sym, subst, arith}
 use Rattle.layout.specs.Layout.{records}
 use Rattle.layout.specs.declared.section.Section.TheVariants.{Codes}
 use Rattle.standing.specs.declared.shape.Shape.{Shape}
-use Rattle.standing.specs.Standing.{Standing, stand, broken, next, other, next_place, other_place}
+use Rattle.standing.specs.Standing.{Standing, broken, next, other, next_place, other_place}
 use Rattle.standing.specs.Paths.{shape_at, Reach, Stands}
 use Rattle.standing.specs.Paths.Reach.{begin, on, off}
-use Rattle.opening.specs.Opening.{code_shapes, AllStand, SameWhereReached, UnreachedInstructionsDoNotMatter}
+use Rattle.opening.specs.Opening.{code_shapes, UnreachedInstructionsDoNotMatter}
 
 -- two codes that are alike wherever a path of the first reaches have the same paths
 module _ (c d : List Shape) (long : length c ≡ length d) (alike : (k : ℕ) (s : Standing) → Reach c k s → shape_at c k ≡ shape_at d k) where

@@ -1,6 +1,5 @@
 -- From the answers of the two checks to the lowest cause.
-use Rattle.std.proofs.Common.{◌≡◌, ℕ, ◌+◌, ◌<◌, ◌≤◌, true, ltb, List, ◌++◌, length, take, Some, None, Ok, Err, Option, Result, sym, refl, ap, ◌∙◌, subst, arith}
-use Rattle.std.specs.Option.{option_map}
+use Rattle.std.proofs.Common.{◌≡◌, ℕ, ◌<◌, ◌≤◌, List, ◌++◌, length, Some, None, Ok, Err, Option, Result, sym, refl, ap, ◌∙◌, subst, arith}
 use Rattle.layout.specs.Layout.{records}
 use Rattle.layout.specs.Bounded.{first_or}
 use Rattle.layout.specs.declared.section.Section.TheVariants.{Codes}
@@ -8,13 +7,12 @@ use Rattle.standing.specs.declared.entry.Entry.{Entry}
 use Rattle.standing.specs.declared.shape.Broken.{Broken}
 use Rattle.standing.specs.declared.shape.Shape.{Shape}
 use Rattle.standing.specs.Paths.{Stands}
-use Rattle.standing.specs.Search.{Exact, Judged}
+use Rattle.standing.specs.Search.{Judged}
 use Rattle.causes.specs.Causes.{cause, defect, first_defect, header_rules, reference_rules, field_rules, name_rules, body_rules}
 use Rattle.causes.specs.declared.defect.Defect.{Defect}
 use Rattle.causes.proofs.Search.{first_defect_append, kept_none}
-use Rattle.bundle.specs.Decoded.{code}
 use Rattle.bundle.proofs.Kept.{clean}
-use Rattle.opening.specs.Opening.{code_shapes, AllStand, IsBrokenCode, Opens, Lowest}
+use Rattle.opening.specs.Opening.{code_shapes, AllStand, IsBrokenCode}
 use Rattle.opening.proofs.Reading.{code_short, shapes_long}
 
 -- a bundle without causes 1 to 4 has no broken rule

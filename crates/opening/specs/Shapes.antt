@@ -1,6 +1,6 @@
 -- What each instruction does to the operands and the open marks. It assumes nothing.
 use Rattle.std.specs.Prelude.{List, map, nat_le}
-use Rattle.instruction.specs.Program.{Instr, Step, Code}
+use Rattle.instruction.specs.Program.{Instr, Code}
 use Rattle.instruction.specs.Program.Instr.{emit_raw, store_local, lookup, get_attr, get_item, load_const, build_list, add, sub, mul, div, int_div, rem, pow, neg, eq, ne, gt, gte, lt, lte, not, string_concat, «in», apply_filter, perform_test, emit, push_loop, push_with, iterate, push_did_not_iterate, pop_frame, pop_loop_frame, jump, jump_if_false, jump_if_false_or_pop, jump_if_true_or_pop, begin_capture, end_capture, call_function, dup_top, discard_top, fast_super, fast_recurse, swap, call_block, load_blocks}
 use Rattle.standing.specs.declared.shape.MarkKind.TheVariants.{Scope, Capture, Loop}
 use Rattle.standing.specs.declared.shape.Shape.{Shape}

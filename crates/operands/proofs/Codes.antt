@@ -1,8 +1,8 @@
 -- The codes on top of a stack, read from below.
-use Rattle.std.proofs.Common.{◌≡◌, ℕ, zero, suc, ◌+◌, ◌-◌, ◌<◌, ◌≤◌, List, [], ◌∷◌, ◌++◌, length, get_or, take, set, Some, None, Option, sym, refl, ap, ◌∙◌, add-suc, add-one, arith}
+use Rattle.std.proofs.Common.{◌≡◌, ℕ, zero, suc, ◌+◌, ◌-◌, ◌<◌, List, [], ◌∷◌, length, get_or, take, set, Some, None, Option, sym, refl, ap, ◌∙◌, add-suc, add-one, arith}
 use Rattle.std.proofs.lemmas.List.{take_more_set}
 use Rattle.operands.specs.declared.operand.Operand.{Operand}
-use Rattle.operands.specs.declared.operand.Operand.TheVariants.{Value, Loop, Ended}
+use Rattle.operands.specs.declared.operand.Operand.TheVariants.{Value}
 use Rattle.operands.specs.Stack.{down, code_of, and_code, top_codes}
 
 pub too_few : (n : ℕ) (vs : List Operand) → length vs < n → top_codes n vs ≡ None

@@ -1,5 +1,5 @@
 -- A stack in the front of an array, its top first.
-use Rattle.std.proofs.Common.{◌≡◌, ℕ, zero, suc, ◌+◌, ◌-◌, ◌<◌, ◌≤◌, ◌≢◌, List, [], ◌∷◌, map, length, get_or, drop, set, Some, None, Option, sym, refl, ap, ◌∙◌, subst, add-one, arith, get_or-set_other, get_or-set_same}
+use Rattle.std.proofs.Common.{◌≡◌, ℕ, zero, suc, ◌+◌, ◌-◌, ◌<◌, ◌≤◌, ◌≢◌, List, ◌∷◌, map, length, get_or, drop, set, Some, None, refl, ap, add-one, arith, get_or-set_other, get_or-set_same}
 use Rattle.operands.specs.Stack.{down, head}
 
 module _ {A : Type 0} (d : A) where

@@ -1,6 +1,6 @@
 -- What a bundle has to keep so that it has none of the causes 1 to 4: one rule for each clause of the format.
 -- A rule speaks of one record at a time. It assumes nothing of the bytes.
-use Rattle.std.specs.Prelude.{ℕ, suc, ◌+◌, ◌-◌, ◌*◌, Bool, true, false, cond, not, ◌&&◌, ◌||◌, List, length, ◌==◌, nat_le, nat_lt}
+use Rattle.std.specs.Prelude.{ℕ, suc, ◌+◌, ◌-◌, ◌*◌, Bool, cond, not, ◌&&◌, ◌||◌, List, length, ◌==◌, nat_le, nat_lt}
 use Rattle.std.specs.Str.{bytes_eq}
 use Rattle.layout.specs.Bounded.{each, count}
 use Rattle.layout.specs.Layout.{records, start, size, template, block, code, instruction, constant, text}
@@ -8,7 +8,7 @@ use Rattle.layout.specs.declared.section.Section.{Section}
 use Rattle.layout.specs.declared.section.Section.TheVariants.{Templates, Blocks, Codes, Instructions, Constants, Text}
 use Rattle.layout.specs.declared.records.InstructionRecord.{InstructionRecord}
 use Rattle.instruction.specs.Kinds.{fields}
-use Rattle.instruction.specs.Allowed.{Uses, uses, fields_allowed, constant_allowed}
+use Rattle.instruction.specs.Allowed.{uses, fields_allowed, constant_allowed}
 use Rattle.rules.specs.declared.RecordRule.{RecordRule}
 use Rattle.rules.specs.declared.RecordRule.TheVariants as the
 use Rattle.rules.specs.declared.Owned.{Owned}

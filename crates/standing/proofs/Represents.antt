@@ -1,18 +1,16 @@
 -- An entry of the table stands for a whole standing: its marks are read from the entries of their instructions.
-use Rattle.std.proofs.Common.{◌≡◌, ℕ, zero, suc, ◌+◌, ◌-◌, ◌<◌, ◌≤◌, Bool, true, false, cond, List, [], ◌∷◌, length, get_or, Some, None, Option, sym, refl, ap, ◌∙◌, subst, arith}
+use Rattle.std.proofs.Common.{◌≡◌, ℕ, ◌+◌, List, [], ◌∷◌, Some, None, Option, refl, ap, ◌∙◌, arith}
 use Rattle.layout.specs.Bounded.{first_or}
-use Rattle.standing.specs.Standing.{Standing, stand, mark, floor, outer, is_scope, is_capture, is_loop, in_loop, no_capture, unless, takes, closes_loop, closes, broken, leaves, next, other, next_place, other_place}
+use Rattle.standing.specs.Standing.{Standing, stand, floor, outer, no_capture, unless, takes, closes, broken, next, other, next_place, other_place}
 use Rattle.standing.specs.Paths.{shape_at}
-use Rattle.standing.specs.Entries.{entry_of, item, inner_of, kept, kept_of, opens_mark, mark_in, mark_of, mark_floor, closes_mark, entry_broken, with_height, outermost, outer_in, outer_entry, opened_entry, next_entry, other_entry}
-use Rattle.standing.specs.Search.{OpensAt, Opened, Represents}
+use Rattle.standing.specs.Entries.{item, inner_of, kept, kept_of, opens_mark, mark_in, mark_of, mark_floor, closes_mark, entry_broken, outer_in, outer_entry, next_entry, other_entry}
+use Rattle.standing.specs.Search.{Opened, Represents}
 use Rattle.standing.specs.declared.entry.Entry.{Entry}
-use Rattle.standing.specs.declared.shape.MarkKind.{MarkKind}
-use Rattle.standing.specs.declared.shape.MarkKind.TheVariants.{Scope, Capture, Loop}
 use Rattle.standing.specs.declared.shape.Mark.{Mark}
 use Rattle.standing.specs.declared.shape.Shape.{Shape}
 use Rattle.standing.specs.declared.shape.Shape.TheVariants.{Plain, Inside, Turn, Goto, Branch, Opens, EndsScope, EndsCapture, EndsLoop, Load}
 use Rattle.standing.specs.declared.shape.Reason.{Reason}
-use Rattle.standing.specs.declared.shape.Reason.TheVariants.{WrongPartner, OpenCapture}
+use Rattle.standing.specs.declared.shape.Reason.TheVariants.{OpenCapture}
 
 pub same_some : {A : Type 0} {o : Option A} (x y : A) → o ≡ Some x → o ≡ Some y → x ≡ y
 same_some x y e f = cc

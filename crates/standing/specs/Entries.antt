@@ -1,9 +1,9 @@
 -- The table of the check: for each place what it keeps of the standing there. A mark is known by its instruction, whose
 -- own entry has the rest. It assumes nothing.
-use Rattle.std.specs.Prelude.{◌≡◌, ℕ, suc, ◌+◌, ◌-◌, Bool, true, false, cond, List, [], ◌∷◌, length, Some, None, Option, slice_index_or}
+use Rattle.std.specs.Prelude.{ℕ, suc, ◌+◌, ◌-◌, Bool, true, false, cond, List, [], ◌∷◌, length, Some, None, Option, slice_index_or}
 use Rattle.layout.specs.Bounded.{first_or}
 use Rattle.standing.specs.Standing.{Standing, mark, is_scope, is_capture, is_loop, in_loop, no_capture, unless, takes, closes_loop}
-use Rattle.standing.specs.Paths.{shape_at, Reach}
+use Rattle.standing.specs.Paths.{shape_at}
 use Rattle.standing.specs.declared.entry.Entry.{Entry}
 use Rattle.standing.specs.declared.shape.MarkKind.{MarkKind}
 use Rattle.standing.specs.declared.shape.Mark.{Mark}

@@ -1,5 +1,5 @@
 -- How the check searches: which entries it takes, and what holds between its turns.
-use Rattle.std.specs.Prelude.{◌≡◌, ℕ, suc, ◌+◌, ◌*◌, ◌<◌, ◌≤◌, Bool, true, false, not, ◌&&◌, ◌||◌, ◌⊎◌, List, [], ◌∷◌, length, Some, None, Ok, Err, Option, Result, ◌==◌, ◌≢◌, nat_le, slice_index, slice_set}
+use Rattle.std.specs.Prelude.{◌≡◌, ℕ, suc, ◌+◌, ◌*◌, ◌<◌, ◌≤◌, not, ◌&&◌, ◌||◌, ◌⊎◌, List, [], ◌∷◌, length, Some, None, Ok, Err, Option, Result, ◌==◌, ◌≢◌, nat_le, slice_index, slice_set}
 use Rattle.layout.specs.Bounded.{first_or}
 use Rattle.standing.specs.Standing.{Standing, unless, broken, next, other, next_place, other_place}
 use Rattle.standing.specs.Paths.{shape_at, Reach, Stands}

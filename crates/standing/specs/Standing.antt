@@ -1,5 +1,5 @@
 -- The standing of an instruction: how many operands there are, and which marks are open. It assumes nothing.
-use Rattle.std.specs.Prelude.{ℕ, ◌+◌, ◌-◌, Bool, true, false, cond, ◌&&◌, List, [], ◌∷◌, Some, None, Option, ◌==◌, nat_le}
+use Rattle.std.specs.Prelude.{ℕ, ◌+◌, ◌-◌, Bool, true, false, cond, List, [], ◌∷◌, Some, None, Option, ◌==◌, nat_le}
 use Rattle.layout.specs.Bounded.{first_or}
 use Rattle.standing.specs.declared.shape.MarkKind.{MarkKind}
 use Rattle.standing.specs.declared.shape.MarkKind.TheVariants.{Scope, Capture, Loop}

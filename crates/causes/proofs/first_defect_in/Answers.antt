@@ -1,5 +1,4 @@
-use Rattle.std.proofs.Common.{◌≡◌, get_or, sym, ◌∙◌}
-use Rattle.rules.specs.declared.Rule.{Rule}
+use Rattle.std.proofs.Common.{sym, ◌∙◌}
 use Rattle.rules.specs.declared.Rule.TheVariants.{Record}
 use Rattle.rules.specs.declared.RecordRule.TheVariants.{Size}
 use Rattle.causes.proofs.Search.{owner_among, rule_passes, rule_breaks, rules_end}

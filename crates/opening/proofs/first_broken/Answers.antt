@@ -1,4 +1,4 @@
-use Rattle.std.proofs.Common.{◌≡◌, ℕ, ◌+◌, ◌<◌, ◌≤◌, cond, ltb, List, length, take, Some, None, sym, refl, ap, ◌∙◌, subst, arith, below_more}
+use Rattle.std.proofs.Common.{◌+◌, ◌<◌, ltb, length, take, sym, refl, ap, ◌∙◌, arith, below_more}
 use Rattle.std.specs.Option.{option_map}
 use Rattle.std.proofs.lemmas.Bool.{cond-true, lt-ltb}
 use Rattle.layout.specs.Layout.{records}
@@ -8,7 +8,7 @@ use Rattle.standing.specs.Paths.{Stands}
 use Rattle.standing.proofs.Represents.{none_some}
 use Rattle.bundle.specs.Decoded.{code}
 use Rattle.bundle.specs.View.{code_view}
-use Rattle.opening.specs.Opening.{code_shapes, AllStand}
+use Rattle.opening.specs.Opening.{code_shapes}
 use Rattle.opening.proofs.Verdict.{judged_stands, judged_broken}
 use Rattle.opening.proofs.first_broken.Goals as goal
 use Rattle.opening.proofs.first_broken.Goals.{in-Some+in_default-check_code, in_default}

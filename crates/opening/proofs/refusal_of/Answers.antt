@@ -1,4 +1,4 @@
-use Rattle.std.proofs.Common.{◌≡◌, ℕ, List, sym, subst}
+use Rattle.std.proofs.Common.{ℕ, List, sym, subst}
 use Rattle.opening.specs.Opening.{AllStand, IsBrokenCode, Lowest}
 use Rattle.opening.specs.Opening.Lowest.{none, format, standing}
 use Rattle.opening.proofs.OneCause.{one_cause}

@@ -1,7 +1,7 @@
-use Rattle.std.proofs.Common.{◌≡◌, ℕ, ◌+◌, ◌<◌, ◌≢◌, length, set, Some, None, sym, refl, ap, ◌∙◌, subst, arith, below_more}
-use Rattle.std.proofs.lemmas.List.{get_or-set_same, get_or-set_other, length-set}
+use Rattle.std.proofs.Common.{◌≡◌, ◌<◌, ◌≢◌, length, set, Some, None, sym, ◌∙◌, subst, arith, below_more}
+use Rattle.std.proofs.lemmas.List.{get_or-set_same, get_or-set_other}
 use Rattle.standing.specs.Entries.{item}
-use Rattle.standing.specs.Search.{Searching, Exact}
+use Rattle.standing.specs.Search.{Searching}
 use Rattle.standing.specs.declared.entry.Entry.{Entry}
 use Rattle.standing.proofs.Searches.{started, popped, finished}
 use Rattle.standing.proofs.search.Goals as goal

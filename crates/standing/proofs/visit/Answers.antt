@@ -1,7 +1,5 @@
-use Rattle.std.proofs.Common.{◌≡◌, ℕ, ◌+◌, ◌*◌, ◌≤◌, length, Some, None, Ok, Err, Result, sym, refl, ap, ◌∙◌, subst, arith}
+use Rattle.std.proofs.Common.{length, Some, None, Ok, Err, sym, ◌∙◌, arith}
 use Rattle.std.proofs.lemmas.Result.{err_from_is_err_and}
-use Rattle.standing.specs.Search.{Searching, unknowns, Noted, Visited}
-use Rattle.standing.specs.declared.shape.Reason.{Reason}
 use Rattle.standing.proofs.Represents.{none_some}
 use Rattle.standing.proofs.Searches.{within, passed_over, visit_broken, visit_next, visit_next_refused, visit_other_refused, visit_done, noted_as, broken_as, next_place_as, other_place_as, next_entry_as, other_entry_as, visited_by}
 use Rattle.standing.proofs.visit.Goals as goal

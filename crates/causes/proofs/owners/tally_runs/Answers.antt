@@ -1,4 +1,4 @@
-use Rattle.std.proofs.Common.{◌≡◌, ◌<◌, ◌≤◌, refl, subst, arith}
+use Rattle.std.proofs.Common.{◌≡◌, refl, subst, arith}
 use Rattle.rules.specs.Rules.{namers}
 use Rattle.causes.specs.Tally.{Counts, begins, finishes}
 use Rattle.causes.proofs.Tallies.{counts_none, counts_more, counts_le}

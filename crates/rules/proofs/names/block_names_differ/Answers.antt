@@ -1,4 +1,4 @@
-use Rattle.std.proofs.Common.{◌≡◌, ℕ, ◌+◌, Bool, true, false, sym, ap, ◌∙◌, subst}
+use Rattle.std.proofs.Common.{◌≡◌, ◌+◌, true, false, sym, ◌∙◌, subst}
 use Rattle.layout.specs.Bounded.{each}
 use Rattle.layout.specs.declared.records.TemplateRecord.{TemplateRecord}
 use Rattle.layout.proofs.EachBelow.{each_more, each_fewer, each_not}

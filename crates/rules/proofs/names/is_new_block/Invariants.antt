@@ -1,6 +1,6 @@
 use Rattle.std.proofs.Common.{◌≡◌, ◌+◌, true}
 use Rattle.layout.specs.Bounded.{each}
-use Rattle.rules.specs.Rules.{template_name, block_name, other_name}
+use Rattle.rules.specs.Rules.{block_name, other_name}
 use Rattle.rules.proofs.names.is_new_block.Given as goal
 
 abbrev pub invariant-loop-earlier : goal.invariant-loop-earlier

@@ -1,5 +1,4 @@
-use Rattle.std.proofs.Common.{◌+◌}
-use Rattle.rules.specs.Rules.{template_name, block_name}
+use Rattle.rules.specs.Rules.{template_name}
 use Rattle.rules.proofs.Earlier.{still_new, not_new}
 use Rattle.rules.proofs.names.is_new_template.Goals as goal
 

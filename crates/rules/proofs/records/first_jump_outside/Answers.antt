@@ -1,4 +1,4 @@
-use Rattle.std.proofs.Common.{not, sym, ap, ◌∙◌}
+use Rattle.std.proofs.Common.{sym, ap, ◌∙◌}
 use Rattle.layout.specs.declared.records.CodeRecord.{CodeRecord}
 use Rattle.layout.proofs.EachBelow.{each_more, stops_at, runs_out}
 use Rattle.rules.specs.Rules.{jumps_inside}

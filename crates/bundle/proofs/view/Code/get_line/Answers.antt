@@ -1,4 +1,4 @@
-use Rattle.std.proofs.Common.{◌≡◌, ℕ, true, false, eqb, Some, None, Option, sym, ap, ◌∙◌}
+use Rattle.std.proofs.Common.{eqb, Some, None, sym, ◌∙◌}
 use Rattle.std.proofs.lemmas.Bool.{eq-eqb, ne_eqb, cond-true, cond-false}
 use Rattle.bundle.proofs.Fetching.{line_inside, line_past}
 use Rattle.bundle.proofs.view.Code.get_line.Goals as goal

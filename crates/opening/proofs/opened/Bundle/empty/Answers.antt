@@ -1,4 +1,4 @@
-use Rattle.std.proofs.Common.{◌≡◌, ℕ, List, sym, refl, ap, ◌∙◌, subst}
+use Rattle.std.proofs.Common.{ℕ, List, sym, ap, ◌∙◌, subst}
 use Rattle.causes.specs.Causes.{cause}
 use Rattle.opening.specs.Opening.{AllStand, empty_bundle}
 use Rattle.opening.proofs.Empty.{empty_format, empty_stands}

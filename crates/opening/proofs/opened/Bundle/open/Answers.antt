@@ -1,4 +1,4 @@
-use Rattle.std.proofs.Common.{◌≡◌, ℕ, List, sym, refl, ap, ◌∙◌, subst}
+use Rattle.std.proofs.Common.{ℕ, List, sym, refl, ap, ◌∙◌, subst}
 use Rattle.causes.specs.Causes.{cause}
 use Rattle.opening.specs.Opening.{AllStand, IsBrokenCode, Lowest}
 use Rattle.opening.specs.Opening.Lowest.{none, format, standing}

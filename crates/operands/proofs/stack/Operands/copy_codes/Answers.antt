@@ -1,7 +1,6 @@
-use Rattle.std.proofs.Common.{◌≡◌, ℕ, ◌+◌, ◌-◌, ◌<◌, ◌≤◌, length, get_or, take, Some, None, sym, refl, ap, ◌∙◌, arith}
+use Rattle.std.proofs.Common.{◌≡◌, ◌+◌, ◌-◌, ◌<◌, ◌≤◌, length, Some, sym, ap, ◌∙◌, arith}
 use Rattle.std.proofs.lemmas.List.{take_all}
-use Rattle.operands.specs.declared.operand.Operand.{Operand}
-use Rattle.operands.specs.declared.operand.Operand.TheVariants.{Value, Loop, Ended}
+use Rattle.operands.specs.declared.operand.Operand.TheVariants.{Value}
 use Rattle.operands.specs.Stack.{down, code_of, top_codes}
 use Rattle.operands.proofs.Down.{down_length}
 use Rattle.operands.proofs.Codes.{SoFar, next_value, none_at}

@@ -1,4 +1,4 @@
-use Rattle.std.proofs.Common.{◌≡◌, length, take, Some}
+use Rattle.std.proofs.Common.{◌≡◌, take, Some}
 use Rattle.operands.proofs.Codes.{SoFar}
 use Rattle.operands.proofs.stack.Operands.copy_codes.Given as goal
 

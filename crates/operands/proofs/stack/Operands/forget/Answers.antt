@@ -1,4 +1,4 @@
-use Rattle.std.proofs.Common.{◌≡◌, ℕ, ◌+◌, ◌<◌, ◌≢◌, List, map, length, get_or, set, sym, ap, ◌∙◌, subst, arith, get_or-set_other, get_or-set_same, below_more}
+use Rattle.std.proofs.Common.{◌≡◌, ℕ, ◌<◌, ◌≢◌, map, length, get_or, set, ap, ◌∙◌, arith, get_or-set_other, get_or-set_same, below_more}
 use Rattle.operands.specs.declared.operand.Operand.TheVariants.{Value}
 use Rattle.operands.specs.Stack.{down, forgotten}
 use Rattle.operands.proofs.Down.{down_map}

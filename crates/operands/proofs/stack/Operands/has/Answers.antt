@@ -1,4 +1,4 @@
-use Rattle.std.proofs.Common.{◌<◌, ◌≤◌, length, arith, leb-false, leb-true}
+use Rattle.std.proofs.Common.{arith, leb-false, leb-true}
 use Rattle.operands.specs.Stack.{operands}
 use Rattle.operands.proofs.Codes.{too_few}
 use Rattle.operands.proofs.stack.Operands.has.Goals as goal
