@@ -30,15 +30,17 @@ fn reads_base_line_and_cell(rt: HostRuntime) -> Result<(), Fail> {
         Err(_) => return Err(Fail::new("refused")),
     };
     let cell = bundle.template(2).ok_or("no third template")?;
-    assert!(rt; cell.name() == b"cell");
+    assert!(rt; cell.name() == b"cell".as_slice());
     assert_eq!(rt; cell.main().len(), 4);
     assert!(rt; is_text(cell.main(), 2, b"junk"));
     match cell.main().get(0) {
-        Some(Instruction::LoadConst(Constant::Text(name))) => assert!(rt; name == b"line"),
+        Some(Instruction::LoadConst(Constant::Text(name))) => assert!(rt;
+            name == b"line".as_slice()
+        ),
         _ => return Err(Fail::new("not the load of a text")),
     }
     let ports = cell.block(0).ok_or("no block")?;
-    assert!(rt; ports.name() == b"ports");
+    assert!(rt; ports.name() == b"ports".as_slice());
     assert!(rt; is_text(ports.code(), 0, b"82,"));
     assert!(rt; matches!(ports.code().get(1), Some(Instruction::FastSuper)));
     assert!(rt; ports.code().get(2).is_none());
@@ -159,7 +161,7 @@ fn keeps<'b>(
     assert!(rt; bundle.open(beginning).is_err());
     assert_eq!(rt; bundle.parts().bytes().len(), 494);
     let base = bundle.parts().template(0).ok_or("no template")?;
-    assert!(rt; base.name() == b"base");
+    assert!(rt; base.name() == b"base".as_slice());
     Ok(())
 }
 

@@ -56,7 +56,7 @@ mod tests {
     fn reads_hex(rt: HostRuntime) -> Result<(), Fail> {
         let heap = rt.alloc();
         let bytes = bytes_of_line(heap, b"0aFf")?.ok_or("refused")?;
-        assert_eq!(rt; bytes.as_slice(), &[10, 255]);
+        assert_eq!(rt; bytes.as_slice(), [10, 255].as_slice());
         assert!(rt; bytes_of_line(heap, b"0aF")?.is_none());
         assert!(rt; bytes_of_line(heap, b"0g")?.is_none());
         Ok(())

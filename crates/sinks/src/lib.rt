@@ -40,14 +40,14 @@ mod tests {
     fn a_buffer_takes_what_fits(rt: HostRuntime) {
         let mut bytes = [7u8; 5];
         let mut sink = BufferSink::new(&mut bytes);
-        assert!(rt; sink.text() == b"");
+        assert!(rt; sink.text() == b"".as_slice());
         assert!(rt; sink.write(b"abc").is_ok());
         assert!(rt; sink.write(b"def").is_err());
-        assert!(rt; sink.text() == b"abc");
+        assert!(rt; sink.text() == b"abc".as_slice());
         assert!(rt; sink.write(b"de").is_ok());
         assert!(rt; sink.write(b"").is_ok());
         assert!(rt; sink.write(b"f").is_err());
-        assert!(rt; sink.text() == b"abcde");
+        assert!(rt; sink.text() == b"abcde".as_slice());
     }
 
     #[test]
@@ -65,7 +65,7 @@ mod tests {
         let mut sink = BufferSink::new(&mut bytes);
         assert!(rt; sink.write(b"").is_ok());
         assert!(rt; sink.write(b"a").is_err());
-        assert!(rt; sink.text() == b"");
+        assert!(rt; sink.text() == b"".as_slice());
     }
 
     #[test]
@@ -74,11 +74,11 @@ mod tests {
         assert!(rt; sink.write(b"line").is_ok());
         assert!(rt; sink.write(b"line").is_err());
         assert!(rt; sink.write(b" 2").is_err());
-        assert!(rt; sink.text() == b"line");
+        assert!(rt; sink.text() == b"line".as_slice());
         assert!(rt; sink.write(b" 12").is_err());
         assert!(rt; sink.write(b" 1").is_ok());
         assert!(rt; sink.write(b"").is_ok());
         assert!(rt; sink.write(b"1").is_err());
-        assert!(rt; sink.text() == b"line 1");
+        assert!(rt; sink.text() == b"line 1".as_slice());
     }
 }
