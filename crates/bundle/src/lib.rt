@@ -1,11 +1,10 @@
 // What a byte string says, read as a bundle, and why it would not open as far as its format goes.
 #![tactic(auto)]
 
-ghost use Rattle.std.specs.Prelude.{◌≡◌, ℕ, ◌<◌, length, IfSome, IfOk, if◌then◌else◌, Some, None, nat_lt};
+ghost use Rattle.std.specs.Prelude.{◌≡◌, ◌<◌, length, IfSome, IfOk, if◌then◌else◌, Some, None, nat_lt};
 ghost use Rattle.std.specs.Option.{option_map};
 ghost use Rattle.std.specs.List.{slice_get};
 ghost use Rattle.layout.specs.Layout.{records, header as header_of};
-ghost use Rattle.instruction.specs.Program.{Step};
 ghost use Rattle.instruction.specs.Kinds.{constant_of};
 ghost use Rattle.instruction.specs.Seen.{instruction_seen, constant_seen};
 ghost use Rattle.causes.specs.Causes.{cause as cause_of, defect};

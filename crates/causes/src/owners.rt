@@ -1,6 +1,6 @@
 // Each block, code and instruction is named exactly once: counted in one pass over the records that name,
 // and one over those that are named.
-ghost use Rattle.std.specs.Prelude.{◌≡◌, ℕ, ◌+◌, ◌<◌, ◌≤◌, min, true, length};
+ghost use Rattle.std.specs.Prelude.{◌≡◌, ◌+◌, ◌<◌, min, true};
 ghost use Rattle.layout.specs.Bounded.{count};
 ghost use Rattle.rules.specs.Rules.{namers as namers_of, run_start, run_end, owned_in, code_named_by};
 ghost use Rattle.causes.specs.Causes.{breach, header_rules, all_kept};

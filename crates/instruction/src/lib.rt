@@ -5,7 +5,7 @@ ghost use Rattle.std.specs.Prelude.{◌≡◌};
 ghost use Rattle.std.specs.Option.{option_map};
 ghost use Rattle.instruction.specs.Kinds.{fields as fields_of, constant_of, mode_of, decoded, signed};
 ghost use Rattle.instruction.specs.Program.Instr.{load_const};
-ghost use Rattle.instruction.specs.Allowed.{Uses, uses, small_allowed, fields_allowed, constant_allowed};
+ghost use Rattle.instruction.specs.Allowed.{uses, small_allowed, fields_allowed, constant_allowed};
 ghost use Rattle.instruction.specs.Seen.{instruction_seen, constant_seen, mode_seen};
 
 pub mod instructions;

@@ -2,7 +2,7 @@
 // Every function here is total: it reads any byte string, and a byte past the end as 0.
 #![tactic(auto)]
 
-ghost use Rattle.std.specs.Prelude.{◌≡◌, ℕ, ◌+◌, ◌*◌, ◌^◌, ◌<◌, ◌≤◌, List, length};
+ghost use Rattle.std.specs.Prelude.{◌≡◌, ◌+◌, ◌*◌, ◌^◌, ◌<◌, ◌≤◌, length};
 ghost use Rattle.layout.specs.Layout.{byte, u16 as half, u32 as word, records as records_of, start, extent as extent_of, header as header_of, size as size_of, place, at, template as template_of, block_at, block as block_of, code as code_of, instruction_at, instruction as instruction_of, constant as constant_of, text as text_of};
 
 pub mod records;

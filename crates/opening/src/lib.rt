@@ -1,7 +1,7 @@
 // Whether a bundle opens: it has none of the causes 1 to 4, and each of its codes stands.
 #![tactic(auto)]
 
-ghost use Rattle.std.specs.Prelude.{◌≡◌, ℕ, ◌+◌, ◌<◌, ◌≤◌, length, take, IfErr, MatchOption, MatchResult};
+ghost use Rattle.std.specs.Prelude.{◌≡◌, ◌+◌, ◌<◌, ◌≤◌, length, take, IfErr, MatchOption, MatchResult};
 ghost use Rattle.layout.specs.Layout.{records};
 ghost use Rattle.layout.specs.declared.section.Section.TheVariants.{Codes};
 ghost use Rattle.causes.specs.Causes.{cause as cause_of};

@@ -1,9 +1,7 @@
 // Names that have to differ: those of the templates, and those of the blocks of one template.
-ghost use Rattle.std.specs.Prelude.{◌≡◌, ℕ, suc, ◌+◌, ◌≤◌, length};
+ghost use Rattle.std.specs.Prelude.{◌≡◌, ◌+◌};
 ghost use Rattle.std.specs.Str.{bytes_eq};
-ghost use Rattle.layout.specs.Bounded.{each, count};
-ghost use Rattle.layout.specs.Layout.{records};
-ghost use Rattle.rules.specs.Rules.{template_name, block_name, new_name, keeps_record, keeps as keeps_rule, scope as scope_of};
+ghost use Rattle.rules.specs.Rules.{template_name, block_name, new_name, keeps_record};
 
 use crate::RecordRule;
 use layout::Layout;

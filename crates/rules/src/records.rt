@@ -1,6 +1,6 @@
 // The rules that speak of one record at a time.
-ghost use Rattle.std.specs.Prelude.{◌≡◌, ℕ, ◌+◌, ◌*◌, ◌<◌, not, ◌&&◌, nat_le};
-ghost use Rattle.layout.specs.Bounded.{each, first_not};
+ghost use Rattle.std.specs.Prelude.{◌≡◌, ◌+◌, ◌*◌, ◌<◌, not, ◌&&◌, nat_le};
+ghost use Rattle.layout.specs.Bounded.{first_not};
 ghost use Rattle.layout.specs.Layout.{code};
 ghost use Rattle.rules.specs.Rules.{inside, finish as finish_of, due as due_of, jumps_inside, loads as loads_at, keeps_record, scope_record};
 

@@ -1,6 +1,6 @@
 // A sink that fills a lent buffer.
-ghost use Rattle.std.specs.Prelude.{◌≡◌, ℕ, ◌+◌, ◌≤◌, Bool, true, false, List, [], ◌++◌, length, drop};
-ghost use Rattle.sinks.specs.Taking.{Taking, accepts, offered, fits, buffering};
+ghost use Rattle.std.specs.Prelude.{◌≡◌, ◌+◌, ◌≤◌, [], length, drop};
+ghost use Rattle.sinks.specs.Taking.{accepts, offered, fits, buffering};
 ghost use Rattle.sinks.specs.Answers.{told};
 ghost use Rattle.sinks.specs.Empty.{fits_empty};
 

@@ -1,7 +1,7 @@
 // Where the text of a run goes.
 #![tactic(auto)]
 
-ghost use Rattle.std.specs.Prelude.{◌≡◌, Bool, true, false, List, []};
+ghost use Rattle.std.specs.Prelude.{◌≡◌, true, []};
 ghost use Rattle.sinks.specs.Taking.{Taking, accepts, offered};
 ghost use Rattle.sinks.specs.Answers.{told};
 

@@ -1,6 +1,6 @@
 // A sink that compares with an expected text.
-ghost use Rattle.std.specs.Prelude.{◌≡◌, ℕ, ◌+◌, ◌≤◌, Bool, true, false, List, [], ◌++◌, length, take};
-ghost use Rattle.sinks.specs.Taking.{Taking, continues, matching};
+ghost use Rattle.std.specs.Prelude.{◌≡◌, ◌+◌, ◌≤◌, [], length, take};
+ghost use Rattle.sinks.specs.Taking.{continues, matching};
 ghost use Rattle.sinks.specs.Empty.{continues_empty};
 ghost use Rattle.std.specs.Str.{bytes_eq};
 

@@ -1,7 +1,7 @@
 // The data-flow check of a code: every path to an instruction brings the same operand height and the same open marks.
 #![tactic(auto)]
 
-ghost use Rattle.std.specs.Prelude.{◌≡◌, ℕ, ◌+◌, ◌-◌, ◌^◌, ◌<◌, ◌≤◌, length, take, replicate, Some, None, Decides};
+ghost use Rattle.std.specs.Prelude.{◌≡◌, ◌+◌, ◌-◌, ◌^◌, ◌<◌, ◌≤◌, length, take, replicate, Some, None, Decides};
 ghost use Rattle.layout.specs.Bounded.{first_or};
 ghost use Rattle.standing.specs.Standing.{next_place, other_place, takes, unless, is_scope, is_capture, is_loop, closes_loop};
 ghost use Rattle.standing.specs.Paths.{shape_at};

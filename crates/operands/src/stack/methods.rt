@@ -1,4 +1,4 @@
-ghost use Rattle.std.specs.Prelude.{◌≡◌, ℕ, ◌+◌, ◌-◌, ◌<◌, ◌≤◌, Bool, true, false, ltb, List, [], ◌∷◌, map, reverse, length, drop, is_ok, if◌then◌else◌, None, nat_lt};
+ghost use Rattle.std.specs.Prelude.{◌≡◌, ◌+◌, ◌-◌, ◌<◌, ◌≤◌, true, false, [], ◌∷◌, map, length, drop, is_ok, if◌then◌else◌, None, nat_lt};
 ghost use Rattle.operands.specs.Stack.{operands, most, head, own_first, own_rest, codes_if, top_codes, forgotten};
 
 use super::{Full, MAX_OPERANDS, Operands};
@@ -23,7 +23,7 @@ impl Operands {
     /// Puts an operand on top.
     pub fn push(&mut self, v: Operand) -> Result<(), Full>
         ensures answer { is_ok result ≡ nat_lt (length (operands self.old)) most }
-        ensures after { operands self.new ≡ (if ltb (length (operands self.old)) most then v ∷ operands self.old else operands self.old) }
+        ensures after { operands self.new ≡ (if nat_lt (length (operands self.old)) most then v ∷ operands self.old else operands self.old) }
     {
         let at = self.len();
         if at >= MAX_OPERANDS {
