@@ -7,8 +7,8 @@ ghost use Rattle.std.specs.List.{slice_get};
 ghost use Rattle.layout.specs.Layout.{records, header as header_of};
 ghost use Rattle.instruction.specs.Kinds.{constant_of};
 ghost use Rattle.instruction.specs.Seen.{instruction_seen, constant_seen};
-ghost use Rattle.causes.specs.Causes.{cause as cause_of, defect};
-ghost use Rattle.bundle.specs.Decoded.{program, block as block_at, code as code_at, fetched, line_of};
+ghost use Rattle.causes.specs.Causes.{cause as format_cause, defect};
+ghost use Rattle.bundle.specs.Decoded.{program, block as decoded_block, code as decoded_code, fetched, line_of};
 ghost use Rattle.bundle.specs.View.{code_view, block_view, template_view, bytes as bytes_of, told, refusal};
 ghost use Rattle.bundle.specs.Sections.{SectionsFillTheBundle};
 ghost use Rattle.bundle.specs.Owners.{RecordsHaveOneOwner};
@@ -27,7 +27,7 @@ use view::{Block, Code, Examined, Template};
 // The lowest of the causes 1 to 4 that these bytes have, with the record that shows it,
 // or else the value through which they are read.
 pub fn examine<'b>(bytes: &'b [u8]) -> Result<Examined<'b>, Defect>
-    ensures lowest { told result ≡ cause_of bytes.now }
+    ensures lowest { told result ≡ format_cause bytes.now }
     ensures refused { refusal result ≡ defect bytes.now }
     ensures accepted { IfOk result (λ e. bytes_of e ≡ bytes.now) }
     ensures sections { SectionsFillTheBundle bytes.now }
@@ -69,7 +69,7 @@ impl<'b> Examined<'b> {
     }
 
     pub fn block(self, number: u32) -> Option<Block<'b>>
-        ensures { option_map block_view result ≡ (if nat_lt number (records self.entry.layout.bytes.now Section.Blocks) then Some (block_at self.entry.layout.bytes.now number) else None) }
+        ensures { option_map block_view result ≡ (if nat_lt number (records self.entry.layout.bytes.now Section.Blocks) then Some (decoded_block self.entry.layout.bytes.now number) else None) }
     {
         if number < self.layout.count(Section::Blocks) {
             Some(Block {
@@ -82,7 +82,7 @@ impl<'b> Examined<'b> {
     }
 
     pub fn code(self, number: u32) -> Option<Code<'b>>
-        ensures value { option_map code_view result ≡ (if nat_lt number (records self.entry.layout.bytes.now Section.Codes) then Some (code_at self.entry.layout.bytes.now number) else None) }
+        ensures value { option_map code_view result ≡ (if nat_lt number (records self.entry.layout.bytes.now Section.Codes) then Some (decoded_code self.entry.layout.bytes.now number) else None) }
         ensures place { IfSome result (λ c. (c.layout.bytes.now ≡ self.entry.layout.bytes.now) × (c.number ≡ number)) }
     {
         if number < self.layout.count(Section::Codes) {
@@ -179,7 +179,7 @@ impl<'b> Code<'b> {
     // The instruction at this place, or none past the end.
     pub fn get(self, place: u32) -> Option<Instruction<'b>>
         ensures value { option_map instruction_seen result ≡ fetched self.entry.layout.bytes.now self.entry.number place }
-        ensures clean { cause_of self.entry.layout.bytes.now ≡ 0 → self.entry.number < records self.entry.layout.bytes.now Section.Codes → option_map instruction_seen result ≡ option_map (λ s. s.instruction) (slice_get (code_view self.entry).steps place) }
+        ensures clean { format_cause self.entry.layout.bytes.now ≡ 0 → self.entry.number < records self.entry.layout.bytes.now Section.Codes → option_map instruction_seen result ≡ option_map (λ s. s.instruction) (slice_get (code_view self.entry).steps place) }
     {
         let raw = self.layout.code(self.number);
         if place < raw.instruction_count {

@@ -3,7 +3,7 @@
 #![tactic(auto)]
 
 ghost use Rattle.std.specs.Prelude.{◌≡◌, true};
-ghost use Rattle.causes.specs.Causes.{number as number_of, number_record, breach, first_defect, defect, cause, cause_of, header_rules, all_kept};
+ghost use Rattle.causes.specs.Causes.{number as number_of, number_record, breach, first_defect as defect_in, defect, cause, cause_of, header_rules, all_kept};
 ghost use Rattle.causes.specs.Tally.{is_owner, any_owner};
 
 pub mod defect;
@@ -71,7 +71,7 @@ fn first_breach(layout: Layout<'_>, rule: Rule) -> Option<u32>
 // The first of these rules that is broken, with the first record that breaks it.
 fn first_defect_in(layout: Layout<'_>, rules: &[Rule]) -> Option<Defect>
     requires { any_owner rules.now ≡ true → all_kept layout.bytes.now header_rules ≡ true }
-    ensures { result ≡ first_defect layout.entry.bytes.now rules.now }
+    ensures { result ≡ defect_in layout.entry.bytes.now rules.now }
 {
     for rule in rules {
         if let Some(record) = first_breach(layout, *rule) {

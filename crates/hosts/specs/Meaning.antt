@@ -1,4 +1,4 @@
--- What a host means: a list of values, limits, and rules that never change.
+-- The meaning of a host: the values that it knows so far, how much it takes, and rules that stay as they are.
 use Rattle.std.specs.Prelude.{ℕ, ◌+◌, Bool, true, ◌&&◌, List, [], ◌∷◌, ◌++◌, length, ℤ, Option, Result, nat_le}
 use Rattle.hosts.specs.Values.{Value}
 use Rattle.hosts.specs.declared.Unary.{Unary}

@@ -3,7 +3,7 @@
 
 ghost use Rattle.std.specs.Prelude.{◌≡◌};
 ghost use Rattle.std.specs.Option.{option_map};
-ghost use Rattle.instruction.specs.Kinds.{fields as fields_of, constant_of, mode_of, decoded, signed};
+ghost use Rattle.instruction.specs.Kinds.{fields as kind_fields, constant_of, mode_of, decoded, signed};
 ghost use Rattle.instruction.specs.Program.Instr.{load_const};
 ghost use Rattle.instruction.specs.Allowed.{uses, small_allowed, fields_allowed, constant_allowed};
 ghost use Rattle.instruction.specs.Seen.{instruction_seen, constant_seen, mode_seen};
@@ -20,7 +20,7 @@ use local_id::{LocalId, MAX_LOCALS};
 
 // Which fields the kind with this number takes.
 pub fn fields_of_kind(kind: u8) -> Fields
-    ensures { result ≡ fields_of kind }
+    ensures { result ≡ kind_fields kind }
 {
     match kind {
         0 | 1 | 2 | 3 | 58 => Fields::Text,

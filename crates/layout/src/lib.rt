@@ -3,7 +3,7 @@
 #![tactic(auto)]
 
 ghost use Rattle.std.specs.Prelude.{◌≡◌, ◌+◌, ◌*◌, ◌^◌, ◌<◌, ◌≤◌, length};
-ghost use Rattle.layout.specs.Layout.{byte, u16 as half, u32 as word, records as records_of, start, extent as extent_of, header as header_of, size as size_of, place, at, template as template_of, block_at, block as block_of, code as code_of, instruction_at, instruction as instruction_of, constant as constant_of, text as text_of};
+ghost use Rattle.layout.specs.Layout.{byte, u16 as half, u32 as word, records as records_of, start, extent as extent_of, header as header_of, size as size_of, place, at, template as template_record, block_at, block as block_record, code as code_record, instruction_at, instruction as instruction_record, constant as constant_record, text as text_of};
 
 pub mod records;
 pub mod section;
@@ -118,7 +118,7 @@ impl<'b> Layout<'b> {
     }
 
     pub fn template(self, number: u32) -> TemplateRecord
-        ensures { result ≡ template_of self.entry.bytes.now number }
+        ensures { result ≡ template_record self.entry.bytes.now number }
     {
         let at = self.record_at(Section::Templates, number);
         TemplateRecord {
@@ -142,20 +142,20 @@ impl<'b> Layout<'b> {
     }
 
     pub fn block(self, number: u32) -> BlockRecord
-        ensures { result ≡ block_of self.entry.bytes.now number }
+        ensures { result ≡ block_record self.entry.bytes.now number }
     {
         self.block_at(self.record_at(Section::Blocks, number))
     }
 
     // The block that stands `place` records after the block `first`.
     pub fn block_from(self, first: u32, place: u32) -> BlockRecord
-        ensures { result ≡ block_of self.entry.bytes.now (first + place) }
+        ensures { result ≡ block_record self.entry.bytes.now (first + place) }
     {
         self.block_at(self.record_from(Section::Blocks, first, place))
     }
 
     pub fn code(self, number: u32) -> CodeRecord
-        ensures { result ≡ code_of self.entry.bytes.now number }
+        ensures { result ≡ code_record self.entry.bytes.now number }
     {
         let at = self.record_at(Section::Codes, number);
         CodeRecord {
@@ -181,20 +181,20 @@ impl<'b> Layout<'b> {
     }
 
     pub fn instruction(self, number: u32) -> InstructionRecord
-        ensures { result ≡ instruction_of self.entry.bytes.now number }
+        ensures { result ≡ instruction_record self.entry.bytes.now number }
     {
         self.instruction_at(self.record_at(Section::Instructions, number))
     }
 
     // The instruction that stands `place` records after the instruction `first`.
     pub fn instruction_from(self, first: u32, place: u32) -> InstructionRecord
-        ensures { result ≡ instruction_of self.entry.bytes.now (first + place) }
+        ensures { result ≡ instruction_record self.entry.bytes.now (first + place) }
     {
         self.instruction_at(self.record_from(Section::Instructions, first, place))
     }
 
     pub fn constant(self, number: u32) -> ConstantRecord
-        ensures { result ≡ constant_of self.entry.bytes.now number }
+        ensures { result ≡ constant_record self.entry.bytes.now number }
     {
         let at = self.record_at(Section::Constants, number);
         ConstantRecord {

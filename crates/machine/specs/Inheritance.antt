@@ -6,7 +6,7 @@ use Rattle.hosts.specs.Answers.{text_test}
 use Rattle.hosts.specs.declared.Unary.{Unary}
 use Rattle.hosts.specs.declared.Binary.{Binary}
 use Rattle.machine.specs.declared.fault.Fault.TheVariants.{TemplateNotFound, BadExtend, EighthLoad, UnknownBlock, RequiredBlock, BadSuper}
-use Rattle.machine.specs.Outline.{Shape, Ref, block as a_Block, template, required_at, with_blocks, row_number, defs_at, def_at}
+use Rattle.machine.specs.Outline.{Shape, Ref, block as a_block, template, required_at, with_blocks, row_number, defs_at, def_at}
 use Rattle.machine.specs.State.{Slots, Act, Caller, block, Capture, dropped, kept, Body, Control, most_loads, with_slots, past, first_slots}
 use Rattle.machine.specs.Parts.{Part, does, bind, fails, pop_plain, read, spell, begin_capture, push_frame}
 use Rattle.machine.specs.Loops.{frame, capture_if}
@@ -36,7 +36,7 @@ goes_on c = with_slots c (past c.act.slots)
 -- the definition d, at this depth of the row r; the caller waits at its next instruction
 abbrev pub entered : Control → ℕ → ℕ → Ref → Body → Control
 entered c r k d b = record {
-  act = record { at = a_Block d; base = length b.operands; row = Some r; slots = first_slots };
+  act = record { at = a_block d; base = length b.operands; row = Some r; slots = first_slots };
   rows = c.rows;
   depths = slice_set c.depths r k;
   loaded = c.loaded;

@@ -219,7 +219,7 @@ start_capture m a b = bind (begin_capture (capture_by m) b) (goes a)
 unfoldable pub finish_capture : Act → Body → Part Slots
 finish_capture a b = bind (push_captured b) (goes a)
 
--- Functions: a loop recurses, another value goes to the host, nothing is unknown.
+-- Functions: the name of a loop recurses, that of any other value is called by the host, and a name without a value is unknown.
 
 abbrev pub recurse_at : Option Lap → Act → Body → Part Slots
 recurse_at None a b = stuck

@@ -4,7 +4,7 @@
 ghost use Rattle.std.specs.Prelude.{◌≡◌, ◌+◌, ◌<◌, ◌≤◌, length, take, IfErr, MatchOption, MatchResult};
 ghost use Rattle.layout.specs.Layout.{records};
 ghost use Rattle.layout.specs.declared.section.Section.TheVariants.{Codes};
-ghost use Rattle.causes.specs.Causes.{cause as cause_of};
+ghost use Rattle.causes.specs.Causes.{cause as format_cause};
 ghost use Rattle.bundle.specs.View.{code_view};
 ghost use Rattle.standing.specs.Search.{Judged};
 ghost use Rattle.opening.specs.Opening.{code_shapes, AllStand, IsBrokenCode, Lowest, OneLowestCause, UnreachedInstructionsDoNotMatter, empty_bundle};
@@ -27,7 +27,7 @@ const MAX_CODE: usize = 1024;
 // Reads what the instructions of a code do.
 fn read_shapes(code: Code<'_>, count: u32, shapes: &mut [Shape])
     requires { (count ≡ length (code_view code).steps) × (count ≤ length shapes.old) }
-    ensures { cause_of code.entry.layout.bytes.now ≡ 0 → code.entry.number < records code.entry.layout.bytes.now Codes → take count shapes.new ≡ code_shapes code.entry.layout.bytes.now code.entry.number }
+    ensures { format_cause code.entry.layout.bytes.now ≡ 0 → code.entry.number < records code.entry.layout.bytes.now Codes → take count shapes.new ≡ code_shapes code.entry.layout.bytes.now code.entry.number }
 {
     for place in 0..count {
         if let Some(instruction) = code.get(place) {
@@ -38,7 +38,7 @@ fn read_shapes(code: Code<'_>, count: u32, shapes: &mut [Shape])
 
 // Whether a code stands. If it does, the table has what the paths bring to each of its places.
 pub fn check_code(code: Code<'_>, table: &mut Table) -> Result<(), Broken>
-    ensures { cause_of code.entry.layout.bytes.now ≡ 0 → code.entry.number < records code.entry.layout.bytes.now Codes → Judged (code_shapes code.entry.layout.bytes.now code.entry.number) (take (length (code_shapes code.entry.layout.bytes.now code.entry.number) + 1) table.new.entries) result }
+    ensures { format_cause code.entry.layout.bytes.now ≡ 0 → code.entry.number < records code.entry.layout.bytes.now Codes → Judged (code_shapes code.entry.layout.bytes.now code.entry.number) (take (length (code_shapes code.entry.layout.bytes.now code.entry.number) + 1) table.new.entries) result }
 {
     let count = code.len();
     if count as usize > MAX_CODE {
@@ -54,7 +54,7 @@ pub fn check_code(code: Code<'_>, table: &mut Table) -> Result<(), Broken>
 
 // The first code of the bundle that does not stand.
 fn first_broken(bundle: Examined<'_>) -> Option<BrokenCode>
-    requires { cause_of bundle.layout.bytes.now ≡ 0 }
+    requires { format_cause bundle.layout.bytes.now ≡ 0 }
     ensures { MatchOption result (AllStand bundle.entry.layout.bytes.now) (λ x. IsBrokenCode bundle.entry.layout.bytes.now x.code) }
 {
     let mut table = Table::new();
