@@ -6,7 +6,8 @@ usage: python3 tools/respell.py    at the top of the repository, right after the
 A name is the repository's own where it is defined in specs/ or in a lemma file of proofs/ (not in a folder of answers,
 whose names the check makes), or where a `ghost use` of a source file gives it. Names that a file takes from std keep
 their spelling, so do all that follows `goal.` and, in a folder of answers, all that follows a dot: the check makes
-those. Comments, strings and the functions of src/ are left alone. A new name that a file had already is said.
+those. Comments and the functions of src/ are left alone; no string of the repository had such a name. A new name
+that a file had already is said.
 """
 
 import os
