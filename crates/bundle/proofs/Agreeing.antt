@@ -26,7 +26,7 @@ constant_same : (b c : List ℕ) (r s : ConstantRecord) → SameConstant b c r s
 constant_same b c r s h =
     subst (λ (k : ℕ). constant_as b r ≡
     cond (eqb k 0) (Some undefined) (cond (eqb k 1) (Some (boolean false)) (cond (eqb k 2) (Some (boolean true))
-    (cond (eqb k 3) (Some (integer (signed s.a))) (cond (eqb k 4) (Some (string (layout.text c s.a s.b))) None)))))
+    (cond (eqb k 3) (Some (integer (signed s.a))) (cond (eqb k 4) (Some (string (layout.text c (layout.span s.a s.b)))) None)))))
     h.kind
     (choose (eqb r.kind 0) _ _ _ _ (λ _. refl)
     (choose (eqb r.kind 1) _ _ _ _ (λ _. refl)
@@ -36,7 +36,7 @@ constant_same b c r s h =
 
 operands_same : (b c : List ℕ) (r s : InstructionRecord) (o : Operands)
     → r.small ≡ s.small → r.argc ≡ s.argc
-    → ((uses (fields_of o)).text ≡ true → layout.text b r.a r.b ≡ layout.text c s.a s.b)
+    → ((uses (fields_of o)).text ≡ true → layout.text b (layout.span r.a r.b) ≡ layout.text c (layout.span s.a s.b))
     → ((uses (fields_of o)).constant ≡ true → SameConstant b c (layout.constant b r.a) (layout.constant c s.a))
     → ((uses (fields_of o)).target ≡ true → r.a ≡ s.a)
     → decoded_as b r o ≡ decoded_as c s o
@@ -44,11 +44,11 @@ operands_same b c r s (plain i) small argc words constants goal = refl
 operands_same b c r s (text i) small argc words constants goal = ap (λ x. Some (i x)) (words refl)
 operands_same b c r s (counted i) small argc words constants goal = ap (λ n. Some (i n)) argc
 operands_same b c r s (named i) small argc words constants goal =
-    ap (λ x. Some (i x r.argc)) (words refl) ∙ ap (λ n. Some (i (layout.text c s.a s.b) n)) argc
+    ap (λ x. Some (i x r.argc)) (words refl) ∙ ap (λ n. Some (i (layout.text c (layout.span s.a s.b)) n)) argc
 operands_same b c r s (cached i) small argc words constants goal =
     ap (λ x. Some (i x r.argc r.small)) (words refl)
-    ∙ ap (λ n. Some (i (layout.text c s.a s.b) n r.small)) argc
-    ∙ ap (λ n. Some (i (layout.text c s.a s.b) s.argc n)) small
+    ∙ ap (λ n. Some (i (layout.text c (layout.span s.a s.b)) n r.small)) argc
+    ∙ ap (λ n. Some (i (layout.text c (layout.span s.a s.b)) s.argc n)) small
 operands_same b c r s (constant i) small argc words constants goal =
     ap (option_map i) (constant_same b c (layout.constant b r.a) (layout.constant c s.a) (constants refl))
 operands_same b c r s (target i) small argc words constants goal = ap (λ n. Some (i n)) (goal refl)
@@ -69,8 +69,8 @@ step_same b c i j h =
 
 code_same : (b c : List ℕ) (i j : ℕ) → SameCode b c i j → code b i ≡ code c j
 code_same b c i j h =
-    let steps = listed_same (λ k. step b ((layout.code b i).first_instruction + k)) (λ k. step c ((layout.code c j).first_instruction + k))
-    (layout.code b i).instruction_count (layout.code c j).instruction_count h.number
+    let steps = listed_same (λ k. step b ((layout.code b i).instructions.first + k)) (λ k. step c ((layout.code c j).instructions.first + k))
+    (layout.code b i).instructions.count (layout.code c j).instructions.count h.number
     (λ k l. step_same b c _ _ (h.steps k l)) in
     let Made : Bool → List Step → Code = λ t xs. record { required = t; steps = xs } in
     ap (λ n. Made (eqb n 1) (code b i).steps) h.flag ∙ ap (Made (eqb (layout.code c j).flag 1)) steps
@@ -82,8 +82,8 @@ block_same b c i j h =
 
 template_same : (b c : List ℕ) (t : ℕ) → SameTemplate b c t → template b t ≡ template c t
 template_same b c t h =
-    let blocks = listed_same (λ k. block b ((layout.template b t).first_block + k)) (λ k. block c ((layout.template c t).first_block + k))
-    (layout.template b t).block_count (layout.template c t).block_count h.number
+    let blocks = listed_same (λ k. block b ((layout.template b t).blocks.first + k)) (λ k. block c ((layout.template c t).blocks.first + k))
+    (layout.template b t).blocks.count (layout.template c t).blocks.count h.number
     (λ k l. block_same b c _ _ (h.blocks k l)) in
     let Made : List ℕ → Code → List Block → Template = λ n x xs. record { name = n; main = x; blocks = xs } in
     ap (λ n. Made n (template b t).main (template b t).blocks) h.name

@@ -5,11 +5,10 @@ use Rattle.std.specs.Option.{option_map}
 use Rattle.std.proofs.lemmas.Bool.{cases_lt, leb-true, eqb-false, lt-ltb, le-ltb, both_ways, or_cases, not-true, cond-true, cond-false}
 use Rattle.layout.specs.Layout as layout
 use Rattle.layout.specs.declared.section.Section.TheVariants.{Codes, Instructions, Constants}
-use Rattle.layout.specs.declared.records.CodeRecord.{CodeRecord}
 use Rattle.layout.specs.declared.records.InstructionRecord.{InstructionRecord}
 use Rattle.layout.specs.declared.records.ConstantRecord.{ConstantRecord}
 use Rattle.layout.proofs.Listed.{nth_listed, nth_past_listed}
-use Rattle.instruction.specs.Program.{Instr, Step}
+use Rattle.instruction.specs.Program.{Step}
 use Rattle.instruction.specs.Program.Instr.{emit_raw}
 use Rattle.instruction.specs.Kinds.{Operands, operands, fields_of, fields, constant_as, constant_of, decoded_as, decoded}
 use Rattle.instruction.specs.Kinds.Operands.{plain, text, counted, named, cached, constant, target, flags, mode, left_out}
@@ -18,7 +17,7 @@ use Rattle.rules.specs.Rules.{inside}
 use Rattle.rules.specs.declared.RecordRule.TheVariants.{CodeInstructions, InstructionConstant, InstructionKind, ConstantKind}
 use Rattle.rules.specs.declared.Rule.TheVariants.{Record}
 use Rattle.causes.specs.Causes.{cause, reference_rules, field_rules}
-use Rattle.bundle.specs.Decoded.{instruction, step, code, fetched, line_of}
+use Rattle.bundle.specs.Decoded.{instruction, step, code, fetched, record_at, line_in, line_of}
 use Rattle.bundle.proofs.Kept.{Clean, clean, kept_at, keeps_at}
 
 some_value : {A : Type 0} (x : Option A) (d : A) → is_some x ≡ true → x ≡ Some (unwrap_or x d)
@@ -73,9 +72,9 @@ module _ (b : List ℕ) (h : Clean b) where
       ⊎_elim
       (λ (n : not (uses (fields (layout.instruction b i).kind)).constant ≡ true).
       absurd (both_ways (uses (fields (layout.instruction b i).kind)).constant (not-true (uses (fields (layout.instruction b i).kind)).constant n) t))
-      (λ (n : inside b Constants (layout.instruction b i).a 1 ≡ true).
+      (λ (n : inside b Constants (layout.span (layout.instruction b i).a 1) ≡ true).
       omega (arith, leb-true ((layout.instruction b i).a + 1) (layout.records b Constants) n))
-      (or_cases (not (uses (fields (layout.instruction b i).kind)).constant) (inside b Constants (layout.instruction b i).a 1)
+      (or_cases (not (uses (fields (layout.instruction b i).kind)).constant) (inside b Constants (layout.span (layout.instruction b i).a 1))
       (keeps_at b (Record InstructionConstant) i
       (kept_at b reference_rules 7 (Record InstructionConstant) h.references (omega arith)) l))
 
@@ -88,13 +87,13 @@ module _ (b : List ℕ) (h : Clean b) where
       (λ t. constant_known (layout.instruction b i).a (constant_inside i l t)))
 
   code_inside : (c : ℕ) → c < layout.records b Codes
-      → (layout.code b c).first_instruction + (layout.code b c).instruction_count ≤ layout.records b Instructions
+      → (layout.code b c).instructions.first + (layout.code b c).instructions.count ≤ layout.records b Instructions
   code_inside c l =
       leb-true _ (layout.records b Instructions)
       (keeps_at b (Record CodeInstructions) c (kept_at b reference_rules 5 (Record CodeInstructions) h.references (omega arith)) l)
 
 steps_of : List ℕ → ℕ → ℕ → Step
-steps_of b c k = step b ((layout.code b c).first_instruction + k)
+steps_of b c k = step b ((layout.code b c).instructions.first + k)
 
 -- in a bundle without causes 1 to 4, what is fetched is the step of the program
 pub fetched_is_step : (b : List ℕ) (c k : ℕ) → cause b ≡ 0 → c < layout.records b Codes
@@ -102,41 +101,26 @@ pub fetched_is_step : (b : List ℕ) (c k : ℕ) → cause b ≡ 0 → c < layou
 unfolding steps_of
 fetched_is_step b c k e l =
     ⊎_elim
-    (λ (m : k < (layout.code b c).instruction_count).
+    (λ (m : k < (layout.code b c).instructions.count).
     let h = clean b e in
-    let i = (layout.code b c).first_instruction + k in
-    cond-true (ltb k (layout.code b c).instruction_count) _ _ (lt-ltb k _ m)
+    let i = (layout.code b c).instructions.first + k in
+    cond-true (ltb k (layout.code b c).instructions.count) _ _ (lt-ltb k _ m)
     ∙ instruction_known b h i (omega (arith, code_inside b h c l))
-    ∙ sym (ap (option_map (λ s. s.instruction)) (nth_listed (steps_of b c) (layout.code b c).instruction_count k m)))
-    (λ (m : (layout.code b c).instruction_count ≤ k).
-    cond-false (ltb k (layout.code b c).instruction_count) _ _ (le-ltb k _ m)
-    ∙ sym (ap (option_map (λ s. s.instruction)) (nth_past_listed (steps_of b c) (layout.code b c).instruction_count k m)))
-    (cases_lt k (layout.code b c).instruction_count)
+    ∙ sym (ap (option_map (λ s. s.instruction)) (nth_listed (steps_of b c) (layout.code b c).instructions.count k m)))
+    (λ (m : (layout.code b c).instructions.count ≤ k).
+    cond-false (ltb k (layout.code b c).instructions.count) _ _ (le-ltb k _ m)
+    ∙ sym (ap (option_map (λ s. s.instruction)) (nth_past_listed (steps_of b c) (layout.code b c).instructions.count k m)))
+    (cases_lt k (layout.code b c).instructions.count)
 
--- a place inside the code, and one past its end
-module _ (b : List ℕ) (c k : ℕ) (raw : CodeRecord) (is : raw ≡ layout.code b c) where
-  count_is : raw.instruction_count ≡ (layout.code b c).instruction_count
-  count_is = ap (λ (r : CodeRecord). r.instruction_count) is
-
-  pub fetched_inside : (at : InstructionRecord) (x : Option Instr) → k < raw.instruction_count
-      → at ≡ layout.instruction b (raw.first_instruction + k) → x ≡ decoded b at → x ≡ fetched b c k
-  fetched_inside at x m e d =
-      d ∙ ap (decoded b) (e ∙ ap (λ (r : CodeRecord). layout.instruction b (r.first_instruction + k)) is)
-      ∙ sym (cond-true (ltb k (layout.code b c).instruction_count) _ _ (lt-ltb k _ (omega (arith, count_is))))
-
-  pub fetched_past : raw.instruction_count ≤ k → None ≡ fetched b c k
-  fetched_past m = sym (cond-false (ltb k (layout.code b c).instruction_count) _ _ (le-ltb k _ (omega (arith, count_is))))
-
-  pub line_past : raw.instruction_count ≤ k → None ≡ line_of (slice_get (code b c).steps k)
-  unfolding steps_of
-  line_past m = sym (ap line_of (nth_past_listed (steps_of b c) (layout.code b c).instruction_count k (omega (arith, count_is))))
-
-  -- the line of the record that was read
-  pub line_inside : (at : InstructionRecord) → k < raw.instruction_count
-      → at ≡ layout.instruction b (raw.first_instruction + k)
-      → cond (eqb at.line 0) None (Some at.line) ≡ line_of (slice_get (code b c).steps k)
-  unfolding steps_of
-  line_inside at m e =
-      ap (λ (r : InstructionRecord). cond (eqb r.line 0) None (Some r.line))
-      (e ∙ ap (λ (r : CodeRecord). layout.instruction b (r.first_instruction + k)) is)
-      ∙ sym (ap line_of (nth_listed (steps_of b c) (layout.code b c).instruction_count k (omega (arith, count_is))))
+-- the line of a step is that of its record
+pub line_is : (b : List ℕ) (c k : ℕ) → line_in (record_at b c k) ≡ line_of (slice_get (code b c).steps k)
+unfolding steps_of
+line_is b c k =
+    ⊎_elim
+    (λ (m : k < (layout.code b c).instructions.count).
+    ap line_in (cond-true (ltb k (layout.code b c).instructions.count) _ _ (lt-ltb k _ m))
+    ∙ sym (ap line_of (nth_listed (steps_of b c) (layout.code b c).instructions.count k m)))
+    (λ (m : (layout.code b c).instructions.count ≤ k).
+    ap line_in (cond-false (ltb k (layout.code b c).instructions.count) _ _ (le-ltb k _ m))
+    ∙ sym (ap line_of (nth_past_listed (steps_of b c) (layout.code b c).instructions.count k m)))
+    (cases_lt k (layout.code b c).instructions.count)

@@ -3,3 +3,4 @@ pub mod Filling
 pub mod Owning
 pub mod Agreeing
 pub mod Fetching
+pub mod Reading

@@ -5,6 +5,7 @@ use Rattle.std.specs.Option.{unwrap_or}
 use Rattle.layout.specs.Bounded.{listed}
 use Rattle.layout.specs.Layout as layout
 use Rattle.layout.specs.declared.section.Section.TheVariants.{Templates}
+use Rattle.layout.specs.declared.records.InstructionRecord.{InstructionRecord}
 use Rattle.instruction.specs.Program.{Instr, Step, Code, Block, Template, Program}
 use Rattle.instruction.specs.Program.Instr.{emit_raw}
 use Rattle.instruction.specs.Kinds.{decoded}
@@ -20,7 +21,7 @@ step b i = record { instruction = instruction b i; line = (layout.instruction b 
 abbrev pub code : List ℕ → ℕ → Code
 code b c = record {
   required = ((layout.code b c).flag == 1);
-  steps = listed (layout.code b c).instruction_count (λ k. step b ((layout.code b c).first_instruction + k));
+  steps = listed (layout.code b c).instructions.count (λ k. step b ((layout.code b c).instructions.first + k));
 }
 
 abbrev pub block : List ℕ → ℕ → Block
@@ -30,18 +31,28 @@ abbrev pub template : List ℕ → ℕ → Template
 template b t = record {
   name = template_name b t;
   main = code b (layout.template b t).main;
-  blocks = listed (layout.template b t).block_count (λ k. block b ((layout.template b t).first_block + k));
+  blocks = listed (layout.template b t).blocks.count (λ k. block b ((layout.template b t).blocks.first + k));
 }
 
 abbrev pub program : List ℕ → Program
 program b = listed (layout.records b Templates) (template b)
 
+-- the record at a place of a code, or none past its end
+abbrev pub record_at : List ℕ → ℕ → ℕ → Option InstructionRecord
+record_at b c k =
+    cond (nat_lt k (layout.code b c).instructions.count) (Some (layout.instruction b ((layout.code b c).instructions.first + k))) None
+
 -- what stands at a place of a code, or nothing past its end
 abbrev pub fetched : List ℕ → ℕ → ℕ → Option Instr
 fetched b c k =
-    cond (nat_lt k (layout.code b c).instruction_count) (decoded b (layout.instruction b ((layout.code b c).first_instruction + k))) None
+    cond (nat_lt k (layout.code b c).instructions.count) (decoded b (layout.instruction b ((layout.code b c).instructions.first + k))) None
 
 -- the line of a step, where there is a step and its line is known
 abbrev pub line_of : Option Step → Option ℕ
 line_of None = None
 line_of (Some s) = cond (s.line == 0) None (Some s.line)
+
+-- the same of the record that holds it
+abbrev pub line_in : Option InstructionRecord → Option ℕ
+line_in None = None
+line_in (Some r) = cond (r.line == 0) None (Some r.line)

@@ -1,6 +1,7 @@
 -- In a bundle without causes 1 to 4 every block, code and instruction belongs to exactly one owner.
 use Rattle.std.specs.Prelude.{◌≡◌, ℕ, ◌+◌, ◌<◌, ◌≤◌, List}
 use Rattle.layout.specs.Layout.{records, template, block, code}
+use Rattle.layout.specs.declared.records.Span.{Span}
 use Rattle.layout.specs.declared.section.Section.TheVariants.{Templates, Blocks, Codes, Instructions}
 use Rattle.causes.specs.Causes.{cause}
 
@@ -10,13 +11,13 @@ pub record ExactlyOne {A : Type 0} (P : A → Type 0) : Type 0 where
   pub holds : P one
   pub only : (x : A) → P x → x ≡ one
 
--- the number i lies in the run of `number` records that begins at `first`
-abbrev pub InRun : ℕ → ℕ → ℕ → Type 0
-InRun first number i = (first ≤ i) × (i < first + number)
+-- the number i lies in this run of records
+abbrev pub InRun : Span → ℕ → Type 0
+InRun run i = (run.first ≤ i) × (i < run.first + run.count)
 
 -- a template owns a run of blocks
 abbrev pub OwnsBlock : List ℕ → ℕ → ℕ → Type 0
-OwnsBlock b i t = (t < records b Templates) × InRun (template b t).first_block (template b t).block_count i
+OwnsBlock b i t = (t < records b Templates) × InRun (template b t).blocks i
 
 -- a code is the main code of a template, or the code of a block
 pub data CodeOwner : Type 0 where
@@ -29,7 +30,7 @@ OwnsCode b c (of_block i) = (i < records b Blocks) × ((block b i).code ≡ c)
 
 -- a code owns a run of instructions
 abbrev pub OwnsInstruction : List ℕ → ℕ → ℕ → Type 0
-OwnsInstruction b i c = (c < records b Codes) × InRun (code b c).first_instruction (code b c).instruction_count i
+OwnsInstruction b i c = (c < records b Codes) × InRun (code b c).instructions i
 
 pub record OwnedOnce (b : List ℕ) : Type 0 where
   pub blocks : (i : ℕ) → i < records b Blocks → ExactlyOne (OwnsBlock b i)

@@ -29,13 +29,13 @@ code_view c = decoded.code c.layout.bytes.now c.number
 
 abbrev pub block_view : Block → program.Block
 block_view x = record {
-  name = text x.layout.bytes.now x.raw.name_offset x.raw.name_length;
+  name = text x.layout.bytes.now x.raw.name;
   code = decoded.code x.layout.bytes.now x.raw.code;
 }
 
 abbrev pub template_view : Template → program.Template
 template_view t = record {
-  name = text t.layout.bytes.now t.raw.name_offset t.raw.name_length;
+  name = text t.layout.bytes.now t.raw.name;
   main = decoded.code t.layout.bytes.now t.raw.main;
-  blocks = listed t.raw.block_count (λ k. decoded.block t.layout.bytes.now (t.raw.first_block + k));
+  blocks = listed t.raw.blocks.count (λ k. decoded.block t.layout.bytes.now (t.raw.blocks.first + k));
 }

@@ -1,14 +1,14 @@
 // What a byte string says, read as a bundle, and why it would not open as far as its format goes.
 #![tactic(auto)]
 
-ghost use Rattle.std.specs.Prelude.{◌≡◌, ◌<◌, length, IfSome, IfOk, if◌then◌else◌, Some, None, nat_lt};
+ghost use Rattle.std.specs.Prelude.{◌≡◌, ◌+◌, ◌<◌, length, IfOk, IfSome, if◌then◌else◌, Some, None, nat_lt};
 ghost use Rattle.std.specs.Option.{option_map};
 ghost use Rattle.std.specs.List.{slice_get};
-ghost use Rattle.layout.specs.Layout.{records, header as header_of};
+ghost use Rattle.layout.specs.Layout.{records, header as header_of, code as code_record};
 ghost use Rattle.instruction.specs.Kinds.{constant_of};
 ghost use Rattle.instruction.specs.Seen.{instruction_seen, constant_seen};
 ghost use Rattle.causes.specs.Causes.{cause as format_cause, defect};
-ghost use Rattle.bundle.specs.Decoded.{program, block as decoded_block, code as decoded_code, fetched, line_of};
+ghost use Rattle.bundle.specs.Decoded.{program, block as decoded_block, code as decoded_code, fetched, record_at, line_in, line_of};
 ghost use Rattle.bundle.specs.View.{code_view, block_view, template_view, bytes as bytes_of, told, refusal};
 ghost use Rattle.bundle.specs.Sections.{SectionsFillTheBundle};
 ghost use Rattle.bundle.specs.Owners.{RecordsHaveOneOwner};
@@ -21,11 +21,13 @@ use causes::first_defect;
 use instruction::instructions::{Constant, Instruction};
 use instruction::{decode, read_constant};
 use layout::Layout;
+use layout::records::{BlockRecord, CodeRecord, InstructionRecord, TemplateRecord};
 use layout::section::{Header, Section};
 use view::{Block, Code, Examined, Template};
 
 // The lowest of the causes 1 to 4 that these bytes have, with the record that shows it,
 // or else the value through which they are read.
+#[tactic(auto, using(crate::proofs::Owning::records_have_one_owner, crate::proofs::Agreeing::agreeing_hold_one_program))]
 pub fn examine<'b>(bytes: &'b [u8]) -> Result<Examined<'b>, Defect>
     ensures lowest { told result ≡ format_cause bytes.now }
     ensures refused { refusal result ≡ defect bytes.now }
@@ -42,6 +44,7 @@ pub fn examine<'b>(bytes: &'b [u8]) -> Result<Examined<'b>, Defect>
     }
 }
 
+// Each reader tests its number by hand: made by a closure under `then`, the value's facts were not proved.
 impl<'b> Examined<'b> {
     pub fn bytes(self) -> &'b [u8]
         ensures { result.now ≡ self.entry.layout.bytes.now }
@@ -55,26 +58,28 @@ impl<'b> Examined<'b> {
         self.layout.header()
     }
 
+    #[tactic(auto, using(crate::proofs::Reading::main_inside, crate::proofs::Reading::blocks_inside, crate::proofs::Reading::template_read, crate::proofs::Reading::template_past))]
     pub fn template(self, number: u32) -> Option<Template<'b>>
         ensures { option_map template_view result ≡ slice_get (program self.entry.layout.bytes.now) number }
     {
         if number < self.layout.count(Section::Templates) {
             Some(Template {
                 layout: self.layout,
-                raw: self.layout.template(number),
+                raw: self.layout.record::<TemplateRecord>(number),
             })
         } else {
             None
         }
     }
 
+    #[tactic(auto, using(crate::proofs::Reading::block_code_inside))]
     pub fn block(self, number: u32) -> Option<Block<'b>>
         ensures { option_map block_view result ≡ (if nat_lt number (records self.entry.layout.bytes.now Section.Blocks) then Some (decoded_block self.entry.layout.bytes.now number) else None) }
     {
         if number < self.layout.count(Section::Blocks) {
             Some(Block {
                 layout: self.layout,
-                raw: self.layout.block(number),
+                raw: self.layout.record::<BlockRecord>(number),
             })
         } else {
             None
@@ -107,10 +112,12 @@ impl<'b> Examined<'b> {
 }
 
 impl<'b> Template<'b> {
+    // One line, as for a block: a trait for the two would say no more.
     pub fn name(self) -> &'b [u8]
         ensures { result.now ≡ (template_view self.entry).name }
     {
-        self.layout.text(self.raw.name_offset, self.raw.name_length)
+        let name = self.raw.name;
+        self.layout.text(name)
     }
 
     // What runs when the template is entered.
@@ -123,24 +130,32 @@ impl<'b> Template<'b> {
         }
     }
 
+    #[tactic(auto, using(layout::proofs::Listed::length_listed))]
     pub fn block_count(self) -> u32
         ensures { result ≡ length (template_view self.entry).blocks }
     {
-        self.raw.block_count
+        self.raw.blocks.count
+    }
+
+    #[tactic(auto, using(crate::proofs::Reading::block_code_inside))]
+    fn block_at(self, place: u32) -> Option<Block<'b>>
+        ensures { option_map block_view result ≡ (if nat_lt place self.entry.raw.blocks.count then Some (decoded_block self.entry.layout.bytes.now (self.entry.raw.blocks.first + place)) else None) }
+    {
+        let blocks = self.raw.blocks;
+        if place < blocks.count {
+            Some(Block {
+                layout: self.layout,
+                raw: self.layout.record_from(blocks.first, place),
+            })
+        } else {
+            None
+        }
     }
 
     pub fn block(self, place: u32) -> Option<Block<'b>>
         ensures { option_map block_view result ≡ slice_get (template_view self.entry).blocks place }
     {
-        let raw = self.raw;
-        if place < raw.block_count {
-            Some(Block {
-                layout: self.layout,
-                raw: self.layout.block_from(raw.first_block, place),
-            })
-        } else {
-            None
-        }
+        self.block_at(place)
     }
 }
 
@@ -148,8 +163,7 @@ impl<'b> Block<'b> {
     pub fn name(self) -> &'b [u8]
         ensures { result.now ≡ (block_view self.entry).name }
     {
-        let raw = self.raw;
-        self.layout.text(raw.name_offset, raw.name_length)
+        self.layout.text(self.raw.name)
     }
 
     pub fn code(self) -> Code<'b>
@@ -163,47 +177,65 @@ impl<'b> Block<'b> {
 }
 
 impl<'b> Code<'b> {
+    fn raw(self) -> CodeRecord
+        ensures { result ≡ code_record self.entry.layout.bytes.now self.entry.number }
+    {
+        self.layout.record::<CodeRecord>(self.number)
+    }
+
+    // The record of the instruction at this place, or none past the end.
+    fn record(self, place: u32) -> Option<InstructionRecord>
+        ensures { result ≡ record_at self.entry.layout.bytes.now self.entry.number place }
+    {
+        let instructions = self.raw().instructions;
+        if place < instructions.count {
+            Some(self.layout.record_from(instructions.first, place))
+        } else {
+            None
+        }
+    }
+
+    #[tactic(auto, using(layout::proofs::Listed::length_listed))]
     pub fn len(self) -> u32
         ensures { result ≡ length (code_view self.entry).steps }
     {
-        self.layout.code(self.number).instruction_count
+        self.raw().instructions.count
     }
 
     // Whether it is the code of a block that has to be overridden.
     pub fn is_required_block(self) -> bool
         ensures { result ≡ (code_view self.entry).required }
     {
-        self.layout.code(self.number).flag == 1
+        self.raw().flag == 1
+    }
+
+    fn fetch(self, place: u32) -> Option<Instruction<'b>>
+        ensures { option_map instruction_seen result ≡ fetched self.entry.layout.bytes.now self.entry.number place }
+    {
+        decode(self.layout, self.record(place)?)
     }
 
     // The instruction at this place, or none past the end.
+    #[tactic(auto, using(crate::proofs::Fetching::fetched_is_step))]
     pub fn get(self, place: u32) -> Option<Instruction<'b>>
         ensures value { option_map instruction_seen result ≡ fetched self.entry.layout.bytes.now self.entry.number place }
-        ensures clean { format_cause self.entry.layout.bytes.now ≡ 0 → self.entry.number < records self.entry.layout.bytes.now Section.Codes → option_map instruction_seen result ≡ option_map (λ s. s.instruction) (slice_get (code_view self.entry).steps place) }
+        ensures step { option_map instruction_seen result ≡ option_map (λ s. s.instruction) (slice_get (code_view self.entry).steps place) }
     {
-        let raw = self.layout.code(self.number);
-        if place < raw.instruction_count {
-            decode(
-                self.layout,
-                self.layout.instruction_from(raw.first_instruction, place),
-            )
-        } else {
-            None
-        }
+        self.fetch(place)
+    }
+
+    fn line(self, place: u32) -> Option<u16>
+        ensures { result ≡ line_in (record_at self.entry.layout.bytes.now self.entry.number place) }
+    {
+        let line = self.record(place)?.line;
+        if line == 0 { None } else { Some(line) }
     }
 
     // The line in the source that the instruction at this place comes from, or none where that is not known.
+    #[tactic(auto, using(crate::proofs::Fetching::line_is))]
     pub fn get_line(self, place: u32) -> Option<u16>
         ensures { result ≡ line_of (slice_get (code_view self.entry).steps place) }
     {
-        let raw = self.layout.code(self.number);
-        if place >= raw.instruction_count {
-            return None;
-        }
-        let line = self
-            .layout
-            .instruction_from(raw.first_instruction, place)
-            .line;
-        if line == 0 { None } else { Some(line) }
+        self.line(place)
     }
 }

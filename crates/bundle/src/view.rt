@@ -1,5 +1,10 @@
 // The parts of a bundle that has none of the causes 1 to 4. Each reads what it is asked for from the bytes,
 // so that nothing is copied.
+ghost use Rattle.std.specs.Prelude.{◌≡◌, ◌+◌, ◌<◌, ◌≤◌};
+ghost use Rattle.layout.specs.Layout.{records};
+ghost use Rattle.layout.specs.declared.section.Section.TheVariants.{Blocks, Codes};
+ghost use Rattle.causes.specs.Causes.{cause};
+
 use layout::Layout;
 use layout::records::{BlockRecord, TemplateRecord};
 
@@ -7,18 +12,24 @@ use layout::records::{BlockRecord, TemplateRecord};
 #[derive(Clone, Copy)]
 pub struct Examined<'b> {
     pub(super) layout: Layout<'b>,
+    ghost clean: { cause layout.bytes.now ≡ 0 },
 }
 
 #[derive(Clone, Copy)]
 pub struct Template<'b> {
     pub(super) layout: Layout<'b>,
     pub raw: TemplateRecord,
+    ghost clean: { cause layout.bytes.now ≡ 0 },
+    ghost main: { raw.main < records layout.bytes.now Codes },
+    ghost blocks: { raw.blocks.first + raw.blocks.count ≤ records layout.bytes.now Blocks },
 }
 
 #[derive(Clone, Copy)]
 pub struct Block<'b> {
     pub(super) layout: Layout<'b>,
     pub raw: BlockRecord,
+    ghost clean: { cause layout.bytes.now ≡ 0 },
+    ghost code: { raw.code < records layout.bytes.now Codes },
 }
 
 // A list of instructions: the main code of a template, or the code of a block.
@@ -26,4 +37,6 @@ pub struct Block<'b> {
 pub struct Code<'b> {
     pub(super) layout: Layout<'b>,
     pub number: u32,
+    ghost clean: { cause layout.bytes.now ≡ 0 },
+    ghost inside: { number < records layout.bytes.now Codes },
 }

@@ -41,22 +41,11 @@ fn put_header(bundle: &mut Vec<u8>, parts: &Parts<'_>) -> Result<(), Fail> {
     Ok(())
 }
 
-fn put_triples(bundle: &mut Vec<u8>, records: &[[u32; 3]]) -> Result<(), Fail> {
+fn put_records<const N: usize>(bundle: &mut Vec<u8>, records: &[[u32; N]]) -> Result<(), Fail> {
     for fields in records {
-        put(bundle, fields[0])?;
-        put(bundle, fields[1])?;
-        put(bundle, fields[2])?;
-    }
-    Ok(())
-}
-
-fn put_templates(bundle: &mut Vec<u8>, records: &[[u32; 5]]) -> Result<(), Fail> {
-    for fields in records {
-        put(bundle, fields[0])?;
-        put(bundle, fields[1])?;
-        put(bundle, fields[2])?;
-        put(bundle, fields[3])?;
-        put(bundle, fields[4])?;
+        for number in fields {
+            put(bundle, *number)?;
+        }
     }
     Ok(())
 }
@@ -74,11 +63,11 @@ fn put_instructions(bundle: &mut Vec<u8>, lines: &[Line]) -> Result<(), Fail> {
 pub(super) fn assemble(rt: &HostRuntime, parts: &Parts<'_>) -> Result<Vec<u8>, Fail> {
     let mut bundle = Vec::new(rt.alloc());
     put_header(&mut bundle, parts)?;
-    put_templates(&mut bundle, parts.templates)?;
-    put_triples(&mut bundle, parts.blocks)?;
-    put_triples(&mut bundle, parts.codes)?;
+    put_records(&mut bundle, parts.templates)?;
+    put_records(&mut bundle, parts.blocks)?;
+    put_records(&mut bundle, parts.codes)?;
     put_instructions(&mut bundle, parts.instructions)?;
-    put_triples(&mut bundle, parts.constants)?;
+    put_records(&mut bundle, parts.constants)?;
     bundle.extend_from_slice(parts.text)?;
     Ok(bundle)
 }

@@ -8,10 +8,7 @@ use std::process::Abort;
 use std::test::Fail;
 
 fn cause(bytes: &[u8]) -> u8 {
-    match refusal_of(bytes) {
-        None => 0,
-        Some(refusal) => refusal.cause(),
-    }
+    refusal_of(bytes).map_or(0, |refusal| refusal.cause().number())
 }
 
 fn is_text(code: Code<'_>, place: u32, text: &[u8]) -> bool {

@@ -1,33 +1,32 @@
 -- The first broken rule in the order of the rules shows the lowest cause.
-use Rattle.std.proofs.Common.{◌≡◌, ℕ, zero, suc, ◌+◌, ◌<◌, ◌≤◌, true, false, cond, List, [], ◌∷◌, ◌++◌, length, get_or, drop, Some, None, Option, sym, refl, ap, ◌∙◌, subst, ⊎_elim, arith}
+use Rattle.std.proofs.Common.{◌≡◌, ℕ, ◌+◌, ◌<◌, ◌≤◌, true, false, cond, List, [], ◌∷◌, ◌++◌, map, length, get_or, drop, Some, None, Option, sym, refl, ap, ◌∙◌, subst, ⊎_elim, arith}
 use Rattle.std.proofs.lemmas.List.{at_drop_more, at_drop_all, append-nil}
-use Rattle.std.proofs.lemmas.Bool.{cases_Bool, and_parts, and_cases, both_ways, or_left, or_right}
+use Rattle.std.proofs.lemmas.Bool.{cases_Bool, and_parts, and_cases, both_ways}
 use Rattle.layout.specs.Bounded.{first_or}
 use Rattle.layout.proofs.EachBelow.{first_not_none, first_not_is, each_breaks}
 use Rattle.rules.specs.Rules.{keeps, scope}
+use Rattle.rules.specs.declared.RecordRule.{RecordRule}
 use Rattle.rules.specs.declared.Rule.{Rule}
+use Rattle.rules.specs.declared.Rule.TheVariants.{Record}
 use Rattle.causes.specs.Causes.{header_rules, reference_rules, field_rules, name_rules, body_rules, kept, all_kept, cause, number, breach, blamed, first_defect, defect, cause_of}
-use Rattle.causes.specs.Tally.{is_owner, any_owner}
 use Rattle.causes.specs.declared.defect.Defect.{Defect}
 
-pub owner_among : (rs : List Rule) (i : ℕ) (d : Rule) → i < length rs → is_owner (get_or rs i d) ≡ true → any_owner rs ≡ true
-owner_among [] i d l h = absurd (omega arith)
-owner_among (r ∷ rs) zero d l h = or_left (is_owner r) (any_owner rs) h
-owner_among (r ∷ rs) (suc i) d l h = or_right (is_owner r) (any_owner rs) (owner_among rs i d (omega arith) h)
+-- the rules of a list are tried one by one
+module _ (b : List ℕ) (rs : List RecordRule) (i : ℕ) (d : RecordRule) (so_far : first_defect b (map Record (drop i rs)) ≡ first_defect b (map Record rs)) where
+  here : i < length rs
+      → first_or (blamed (Record (get_or rs i d)) (breach b (Record (get_or rs i d)))) (first_defect b (map Record (drop (i + 1) rs)))
+      ≡ first_defect b (map Record rs)
+  here l = sym (at_drop_more (λ xs. first_defect b (map Record xs)) rs i d l) ∙ so_far
 
-module _ (b : List ℕ) (rs : List Rule) (i : ℕ) (d : Rule) (so_far : first_defect b (drop i rs) ≡ first_defect b rs) where
-  here : i < length rs → first_or (blamed (get_or rs i d) (breach b (get_or rs i d))) (first_defect b (drop (i + 1) rs)) ≡ first_defect b rs
-  here l = sym (at_drop_more (first_defect b) rs i d l) ∙ so_far
-
-  pub rule_passes : i < length rs → breach b (get_or rs i d) ≡ None → first_defect b (drop (i + 1) rs) ≡ first_defect b rs
+  pub rule_passes : i < length rs → breach b (Record (get_or rs i d)) ≡ None → first_defect b (map Record (drop (i + 1) rs)) ≡ first_defect b (map Record rs)
   rule_passes l e = simp e at (here l)
 
-  pub rule_breaks : (k : ℕ) → i < length rs → breach b (get_or rs i d) ≡ Some k
-      → Some (record { rule = get_or rs i d; «record» = k }) ≡ first_defect b rs
+  pub rule_breaks : (k : ℕ) → i < length rs → breach b (Record (get_or rs i d)) ≡ Some k
+      → Some (record { rule = Record (get_or rs i d); «record» = k }) ≡ first_defect b (map Record rs)
   rule_breaks k l e = simp e at (here l)
 
-  pub rules_end : length rs ≤ i → None ≡ first_defect b rs
-  rules_end l = sym (at_drop_all (first_defect b) rs i l) ∙ so_far
+  pub rules_end : length rs ≤ i → None ≡ first_defect b (map Record rs)
+  rules_end l = sym (at_drop_all (λ xs. first_defect b (map Record xs)) rs i l) ∙ so_far
 
 or_assoc : {A : Type 0} (x y z : Option A) → first_or x (first_or y z) ≡ first_or (first_or x y) z
 or_assoc None y z = refl
@@ -129,14 +128,46 @@ lowest b =
     (subst (λ xs. cause_of (first_defect b xs) ≡ cond (all_kept b name_rules) 0 4) (append-nil name_rules)
     (cause_step b 4 0 name_rules [] name_numbered refl))))
 
--- the rules on the header are tried first, and then the others
-pub found_in_header : (b : List ℕ) (d : Defect) → first_defect b header_rules ≡ Some d → Some d ≡ defect b
-unfolding defect
-found_in_header b d e =
-    sym (first_defect_append b header_rules body_rules ∙ ap (λ x. first_or x (first_defect b body_rules)) e)
+-- one list of rules after another: the first shows the defect, or else the second
+pub found_first : (b : List ℕ) (xs ys : List Rule) (d : Defect) → Some d ≡ first_defect b xs → Some d ≡ first_defect b (xs ++ ys)
+found_first b xs ys d e = sym (first_defect_append b xs ys ∙ ap (λ x. first_or x (first_defect b ys)) (sym e))
 
-pub found_later : (b : List ℕ) (r : Option Defect) → first_defect b header_rules ≡ None
-    → r ≡ first_defect b body_rules → r ≡ defect b
-unfolding defect
-found_later b r e h =
-    h ∙ sym (first_defect_append b header_rules body_rules ∙ ap (λ x. first_or x (first_defect b body_rules)) e)
+pub found_next : (b : List ℕ) (xs ys : List Rule) (r : Option Defect) → None ≡ first_defect b xs → r ≡ first_defect b ys → r ≡ first_defect b (xs ++ ys)
+found_next b xs ys r n e = e ∙ sym (first_defect_append b xs ys ∙ ap (λ x. first_or x (first_defect b ys)) (sym n))
+
+-- a list of one rule
+pub alone : (b : List ℕ) (r : Rule) (o : Option ℕ) → o ≡ breach b r → blamed r o ≡ first_defect b (r ∷ [])
+alone b r o e = or_none (blamed r o) ∙ ap (λ x. first_or (blamed r x) None) e
+  where
+    or_none : {A : Type 0} (x : Option A) → x ≡ first_or x None
+    or_none None = refl
+    or_none (Some x) = refl
+
+-- the four lists after one another; h is the same bundle, as the check of its header gives it back
+module _ (b h : List ℕ) (same : h ≡ b) where
+  pub in_header : (d : Defect) → Some d ≡ first_defect b header_rules → Some d ≡ defect b
+  unfolding defect
+  in_header d e = found_first b header_rules body_rules d e
+
+  module _ (no_header : None ≡ first_defect b header_rules) where
+    pub in_references : (d : Defect) → Some d ≡ first_defect h reference_rules → Some d ≡ defect b
+    unfolding defect
+    in_references d e =
+        found_next b header_rules body_rules (Some d) no_header
+        (found_first b reference_rules (field_rules ++ name_rules) d (e ∙ ap (λ x. first_defect x reference_rules) same))
+
+    module _ (no_reference : None ≡ first_defect h reference_rules) where
+      no_reference_here : None ≡ first_defect b reference_rules
+      no_reference_here = no_reference ∙ ap (λ x. first_defect x reference_rules) same
+
+      pub in_fields : (d : Defect) → Some d ≡ first_defect b field_rules → Some d ≡ defect b
+      unfolding defect
+      in_fields d e =
+          found_next b header_rules body_rules (Some d) no_header
+          (found_next b reference_rules (field_rules ++ name_rules) (Some d) no_reference_here (found_first b field_rules name_rules d e))
+
+      pub in_names : (r : Option Defect) → None ≡ first_defect b field_rules → r ≡ first_defect b name_rules → r ≡ defect b
+      unfolding defect
+      in_names r n e =
+          found_next b header_rules body_rules r no_header
+          (found_next b reference_rules (field_rules ++ name_rules) r no_reference_here (found_next b field_rules name_rules r n e))

@@ -8,6 +8,8 @@ use Rattle.rules.specs.declared.RecordRule.TheVariants.{Size, TemplateLimit, Sec
 use Rattle.rules.specs.declared.Owned.TheVariants.{Block, Code, Instruction}
 use Rattle.rules.specs.declared.Rule.{Rule}
 use Rattle.rules.specs.declared.Rule.TheVariants.{Record, Owner, BlockNameLimit}
+use Rattle.causes.specs.declared.cause.Cause.{Cause}
+use Rattle.causes.specs.declared.cause.Cause.TheVariants.{Header, Reference, Field, Name, Standing}
 use Rattle.causes.specs.declared.defect.Defect.{Defect}
 
 -- cause 1: the size or the header is wrong
@@ -102,6 +104,14 @@ first_defect b (r ∷ rs) = first_or (blamed r (breach b r)) (first_defect b rs)
 
 unfoldable pub defect : List ℕ → Option Defect
 defect b = first_defect b rules
+
+-- the causes by their numbers
+abbrev pub cause_number : Cause → ℕ
+cause_number Header = 1
+cause_number Reference = 2
+cause_number Field = 3
+cause_number Name = 4
+cause_number Standing = 5
 
 abbrev pub cause_of : Option Defect → ℕ
 cause_of None = 0

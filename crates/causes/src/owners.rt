@@ -1,55 +1,89 @@
 // Each block, code and instruction is named exactly once: counted in one pass over the records that name,
 // and one over those that are named.
-ghost use Rattle.std.specs.Prelude.{◌≡◌, ◌+◌, ◌<◌, min, true};
-ghost use Rattle.layout.specs.Bounded.{count};
+ghost use Rattle.std.specs.Prelude.{◌≡◌, ◌+◌, ◌≤◌, [], ◌∷◌, length};
+ghost use Rattle.std.specs.Result.{result_err};
 ghost use Rattle.rules.specs.Rules.{namers as namers_of, run_start, run_end, owned_in, code_named_by};
-ghost use Rattle.causes.specs.Causes.{breach, header_rules, all_kept};
-ghost use Rattle.causes.specs.Tally.{Counts, begins, finishes};
+ghost use Rattle.rules.specs.declared.Owned.TheVariants as the;
 ghost use Rattle.rules.specs.declared.Rule.TheVariants.{Owner};
+ghost use Rattle.causes.specs.Causes.{first_defect as defect_in};
+ghost use Rattle.causes.specs.Tally.{CountsStarts, CountsEnds};
 
+use crate::defect::Defect;
+use crate::headed::Headed;
 use layout::Layout;
+use layout::records::{BlockRecord, CodeRecord, Span, TemplateRecord};
 use layout::section::Section;
-use rules::Owned;
+use rules::{Owned, Rule};
 
 // A bundle has at most 65,536 bytes, so that it holds at most this many records of the smallest kind.
 const MAX_NAMED: usize = 5457;
 
-const PLACES: usize = 5458;
+const PLACES: usize = MAX_NAMED + 1;
 
-// How many runs begin at each record, and how many end there. What lies past the last record counts at MAX_NAMED.
-#[derive(Drop)]
-pub struct Tally {
-    owned: Owned,
-    starts: [usize; PLACES],
-    ends: [usize; PLACES],
+// How many runs of named records begin at a record, and how many end before it.
+#[derive(Clone, Copy, PartialEq, Eq, Debug)]
+pub struct Bounds {
+    pub starts: usize,
+    pub ends: usize,
 }
 
-// A run of records that one record names: the first, and the one after the last.
-#[derive(Clone, Copy)]
-pub struct Run {
-    start: usize,
-    end: usize,
-}
+impl Headed<'_> {
+    // How many records name others.
+    fn namers(self, owned: Owned) -> u32
+        ensures { result ≡ namers_of self.entry.layout.bytes.now owned }
+    {
+        match owned {
+            Owned::Block => self.layout.count(Section::Templates),
+            Owned::Code => self.layout.count(Section::Templates)
+                + self.layout.count(Section::Blocks),
+            Owned::Instruction => self.layout.count(Section::Codes),
+        }
+    }
 
-fn namers(layout: Layout<'_>, owned: Owned) -> u32
-    requires { all_kept layout.bytes.now header_rules ≡ true }
-    ensures { result ≡ namers_of layout.entry.bytes.now owned }
-{
-    match owned {
-        Owned::Block => layout.count(Section::Templates),
-        Owned::Code => layout.count(Section::Templates) + layout.count(Section::Blocks),
-        Owned::Instruction => layout.count(Section::Codes),
+    // For each record, how many runs begin and end there. What lies past the last record counts at MAX_NAMED. The places
+    // are the records' numbers, in fixed memory.
+    fn tally(self, owned: Owned) -> [Bounds; PLACES]
+        ensures starts { CountsStarts (namers_of self.entry.layout.bytes.now owned) self.entry.layout.bytes.now owned result }
+        ensures ends { CountsEnds (namers_of self.entry.layout.bytes.now owned) self.entry.layout.bytes.now owned result }
+    {
+        let mut tally = [Bounds { starts: 0, ends: 0 }; PLACES];
+        for namer in 0..self.namers(owned) {
+            let run = named_run(self.layout, owned, namer);
+            let first = run.first as usize;
+            let end = first + run.count as usize;
+            tally[first.min(MAX_NAMED)].starts += 1;
+            tally[end.min(MAX_NAMED)].ends += 1;
+        }
+        tally
+    }
+
+    // Looks for the first record that is named more or less than once.
+    fn check_owned(self, owned: Owned) -> Result<(), Defect>
+        ensures { result_err result ≡ defect_in self.entry.layout.bytes.now (Owner owned ∷ []) }
+    {
+        let tally = self.tally(owned);
+        let mut owners = 0;
+        for number in 0..self.layout.count(owned.section()) {
+            // by its number, which is also what is given out
+            let here = tally[number as usize];
+            owners = owners + here.starts - here.ends;
+            if owners != 1 {
+                return Err(Defect {
+                    rule: Rule::Owner(owned),
+                    record: number,
+                });
+            }
+        }
+        Ok(())
     }
 }
 
-fn named(layout: Layout<'_>, owned: Owned) -> u32
-    ensures { result ≡ owned_in layout.entry.bytes.now owned }
+pub(crate) fn check_owners(headed: Headed<'_>) -> Result<(), Defect>
+    ensures { result_err result ≡ defect_in headed.entry.layout.bytes.now (Owner the.Block ∷ Owner the.Code ∷ Owner the.Instruction ∷ []) }
 {
-    match owned {
-        Owned::Block => layout.count(Section::Blocks),
-        Owned::Code => layout.count(Section::Codes),
-        Owned::Instruction => layout.count(Section::Instructions),
-    }
+    headed.check_owned(Owned::Block)?;
+    headed.check_owned(Owned::Code)?;
+    headed.check_owned(Owned::Instruction)
 }
 
 // The code that a template or a block names; the blocks are counted after the templates.
@@ -58,75 +92,22 @@ fn named_code(layout: Layout<'_>, namer: u32) -> u32
 {
     let templates = layout.count(Section::Templates);
     if namer < templates {
-        layout.template(namer).main
+        layout.record::<TemplateRecord>(namer).main
     } else {
-        layout.block(namer - templates).code
-    }
-}
-
-fn run_of(first: u32, count: u32) -> Run
-    ensures { (result.start ≡ first) × (result.end ≡ first + count) }
-{
-    Run {
-        start: first as usize,
-        end: first as usize + count as usize,
+        layout.record::<BlockRecord>(namer - templates).code
     }
 }
 
 // The run that one record names.
-fn named_run(layout: Layout<'_>, owned: Owned, namer: u32) -> Run
-    ensures { (result.start ≡ run_start layout.entry.bytes.now owned namer) × (result.end ≡ run_end layout.entry.bytes.now owned namer) }
+fn named_run(layout: Layout<'_>, owned: Owned, namer: u32) -> Span
+    ensures { (result.first ≡ run_start layout.entry.bytes.now owned namer) × (result.first + result.count ≡ run_end layout.entry.bytes.now owned namer) }
 {
     match owned {
-        Owned::Block => {
-            let raw = layout.template(namer);
-            run_of(raw.first_block, raw.block_count)
-        }
-        Owned::Code => run_of(named_code(layout, namer), 1),
-        Owned::Instruction => {
-            let raw = layout.code(namer);
-            run_of(raw.first_instruction, raw.instruction_count)
-        }
+        Owned::Block => layout.record::<TemplateRecord>(namer).blocks,
+        Owned::Code => Span {
+            first: named_code(layout, namer),
+            count: 1,
+        },
+        Owned::Instruction => layout.record::<CodeRecord>(namer).instructions,
     }
-}
-
-fn tally_runs(layout: Layout<'_>, owned: Owned) -> Tally
-    requires { all_kept layout.bytes.now header_rules ≡ true }
-    ensures owned { result.owned ≡ owned }
-    ensures starts { Counts (namers_of layout.entry.bytes.now owned) (begins layout.entry.bytes.now owned) result.starts }
-    ensures ends { Counts (namers_of layout.entry.bytes.now owned) (finishes layout.entry.bytes.now owned) result.ends }
-{
-    let mut starts = [0; PLACES];
-    let mut ends = [0; PLACES];
-    let namers = namers(layout, owned);
-    for namer in 0..namers {
-        let run = named_run(layout, owned, namer);
-        let start = run.start.min(MAX_NAMED);
-        let end = run.end.min(MAX_NAMED);
-        starts[start] += 1;
-        ends[end] += 1;
-    }
-    Tally {
-        owned,
-        starts,
-        ends,
-    }
-}
-
-// The first record that is named more or less than once.
-pub(crate) fn first_not_owned_once(layout: Layout<'_>, owned: Owned) -> Option<u32>
-    requires { all_kept layout.bytes.now header_rules ≡ true }
-    ensures { result ≡ breach layout.entry.bytes.now (Owner owned) }
-{
-    let tally = tally_runs(layout, owned);
-    let named = named(layout, owned);
-    let mut owners = 0;
-    for number in 0..named {
-        let place = number as usize;
-        owners = owners + tally.starts[place] - tally.ends[place];
-        if owners != 1 {
-            return Some(number);
-        }
-    }
-    None
 }

@@ -1,20 +1,9 @@
 // Bytes as printable text.
 ghost use Rattle.std.specs.Prelude.{◌≡◌, ◌<◌, IfOk, Some, string_bytes};
-ghost use Rattle.console.specs.Escape.{hex_digit, escaped_byte, escaped};
+ghost use Rattle.console.specs.Escape.{escaped_byte, escaped};
 
 use std::alloc::{AllocError, Global};
 use std::fmt;
-
-fn hex_digit(value: u8) -> char
-    requires { value < 16 }
-    ensures { result ≡ hex_digit value }
-{
-    if value < 10 {
-        (b'0' + value) as char
-    } else {
-        (b'a' + (value - 10)) as char
-    }
-}
 
 // A byte as it is written inside quotes.
 #[derive(Clone, Copy)]
@@ -31,11 +20,7 @@ impl fmt::Display for EscapedByte {
             b'\\' => f.write_str("\\\\"),
             b'"' => f.write_str("\\\""),
             32..=126 => f.write_char(byte as char),
-            _ => {
-                let high = hex_digit(byte / 16);
-                let low = hex_digit(byte % 16);
-                write!(f, "\\x{high}{low}")
-            }
+            _ => write!(f, "\\x{byte:02x}"),
         }
     }
 }

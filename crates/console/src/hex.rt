@@ -6,7 +6,7 @@ ghost use Rattle.console.specs.Hex.{digit_value, byte_of, line_bytes};
 
 use std::alloc::{AllocError, Global};
 
-// The value of a hex digit of either case.
+// The value of a hex digit of either case. (`char::to_digit` gives a `u32` of a `char`, to be cast back with a bound.)
 fn digit_value(digit: u8) -> Option<u8>
     ensures { result ≡ digit_value digit }
 {

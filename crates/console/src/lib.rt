@@ -2,7 +2,7 @@
 #![tactic(auto)]
 
 ghost use Rattle.std.specs.Prelude.{◌≡◌, IfOk, string_bytes};
-ghost use Rattle.opening.specs.Opening.{Lowest};
+ghost use Rattle.opening.specs.Refusals.{number};
 ghost use Rattle.console.specs.Answer.{cause_line, Answers};
 ghost use Rattle.console.specs.Hex.{line_bytes};
 
@@ -10,21 +10,14 @@ pub mod escape;
 pub mod hex;
 
 use hex::bytes_of_line;
+use opening::refusal::Refusal;
 use opening::refusal_of;
 use std::alloc::{AllocError, Global};
 
-fn cause(bytes: &[u8]) -> u8
-    ensures { Lowest bytes.now result }
+fn cause_line(heap: Global, refusal: Option<Refusal>) -> Result<String, AllocError>
+    ensures { IfOk result (λ s. string_bytes s ≡ cause_line (number refusal)) }
 {
-    match refusal_of(bytes) {
-        Some(refusal) => refusal.cause(),
-        None => 0,
-    }
-}
-
-fn cause_line(heap: Global, number: u8) -> Result<String, AllocError>
-    ensures { IfOk result (λ s. string_bytes s ≡ cause_line number) }
-{
+    let number = refusal.map_or(0, |refusal| refusal.cause().number());
     format!(in heap; "cause {number}")
 }
 
@@ -34,7 +27,7 @@ pub fn answer(heap: Global, line: &[u8]) -> Result<String, AllocError>
     ensures { IfOk result (λ s. Answers (line_bytes line.now) (string_bytes s)) }
 {
     match bytes_of_line(heap, line)? {
-        Some(bytes) => cause_line(heap, cause(&bytes)),
+        Some(bytes) => cause_line(heap, refusal_of(&bytes)),
         None => String::from_str(heap, "bad line"),
     }
 }

@@ -1,10 +1,8 @@
 -- What a host answers to each call, and what it means after it.
-use Rattle.std.specs.Prelude.{ℕ, Bool, true, cond, ◌&&◌, List, [], ◌∷◌, length, take, ℤ, Some, None, Ok, Err, Option, Result, nat_le, nat_lt}
+use Rattle.std.specs.Prelude.{◌≡◌, ℕ, Bool, true, cond, ◌&&◌, List, [], ◌∷◌, length, take, ℤ, Some, None, Ok, Err, Option, Result, nat_le, nat_lt}
 use Rattle.hosts.specs.Meaning.{Given, fault, given, Meaning, room, grown}
 use Rattle.hosts.specs.declared.Refusal.{Refusal}
 use Rattle.hosts.specs.declared.Refusal.TheVariants.{Fault, Full}
-use Rattle.hosts.specs.declared.Reading.{Reading}
-use Rattle.hosts.specs.declared.Reading.TheVariants.{Written, Longer}
 use Rattle.hosts.specs.declared.Unary.{Unary}
 use Rattle.hosts.specs.declared.Binary.{Binary}
 
@@ -16,6 +14,11 @@ answer m (given vs k) = cond (room m vs) (Ok k) (Err Full)
 abbrev pub after : Meaning → Given → Meaning
 after m (fault n) = m
 after m (given vs k) = cond (room m vs) (grown m vs) m
+
+-- A call for which the rules give this: what it answers, and what the host means after it.
+pub record Gives (old new : Meaning) (g : Given) (result : Result ℕ Refusal) : Type 0 where
+  pub answers : result ≡ answer old g
+  pub leaves : new ≡ after old g
 
 -- whether all these codes are places in the list
 abbrev pub inside : Meaning → List ℕ → Bool
@@ -100,9 +103,9 @@ pub data Shown : Type 0 where
   longer : Shown
   refused : Refusal → Shown
 
-abbrev pub shown : Result Reading Refusal → List ℕ → Shown
-shown (Ok (Written n)) out = written n (take n out)
-shown (Ok Longer) out = longer
+abbrev pub shown : Result (Option ℕ) Refusal → List ℕ → Shown
+shown (Ok (Some n)) out = written n (take n out)
+shown (Ok None) out = longer
 shown (Err f) out = refused f
 
 -- a text that is to be written into so many bytes

@@ -4,7 +4,7 @@
 ghost use Rattle.std.specs.Prelude.{◌≡◌, length};
 ghost use Rattle.hosts.specs.Meaning.{Meaning};
 ghost use Rattle.hosts.specs.Laws.{Lawful};
-ghost use Rattle.hosts.specs.Answers.{answer, after, plainly, found, after_found, looks_up, gets_attr, gets_item, counts, iterates, truth, shows, shown, fitted, text_test, makes_integer, makes_text, makes_list, unary_gives, binary_gives, filters, tests, calls};
+ghost use Rattle.hosts.specs.Answers.{Gives, plainly, found, after_found, looks_up, gets_attr, gets_item, counts, iterates, truth, shows, shown, fitted, text_test, makes_integer, makes_text, makes_list, unary_gives, binary_gives, filters, tests, calls};
 
 pub mod reason;
 
@@ -18,19 +18,10 @@ pub const TRUE: u32 = 2;
 /// Why a host refuses; it is then as it was before.
 #[derive(Clone, Copy, PartialEq, Eq, Debug)]
 pub enum Refusal {
-    /// A rule of the host is a fault; the number is the host's own.
+    /// A rule of the host is a fault; the number is the host's own, so that no enum of ours can name it.
     Fault(u32),
     /// What is to be added would pass a limit of the host.
     Full,
-}
-
-/// A text that was asked for, in the bytes that were lent for it.
-#[derive(Clone, Copy, PartialEq, Eq, Debug)]
-pub enum Reading {
-    /// It fits, and has so many bytes.
-    Written(usize),
-    /// It is longer than what was lent.
-    Longer,
 }
 
 /// The operations on one value.
@@ -74,12 +65,10 @@ pub trait Host {
         ensures after { meaning self.new ≡ after_found (meaning self.old) (looks_up (meaning self.old) name.now) };
 
     fn get_attr(&mut self, value: u32, name: &[u8]) -> Result<u32, Refusal>
-        ensures answer { result ≡ answer (meaning self.old) (gets_attr (meaning self.old) value name.now) }
-        ensures after { meaning self.new ≡ after (meaning self.old) (gets_attr (meaning self.old) value name.now) };
+        ensures { Gives (meaning self.old) (meaning self.new) (gets_attr (meaning self.old) value name.now) result };
 
     fn get_item(&mut self, value: u32, key: u32) -> Result<u32, Refusal>
-        ensures answer { result ≡ answer (meaning self.old) (gets_item (meaning self.old) value key) }
-        ensures after { meaning self.new ≡ after (meaning self.old) (gets_item (meaning self.old) value key) };
+        ensures { Gives (meaning self.old) (meaning self.new) (gets_item (meaning self.old) value key) result };
 
     /// How many items a loop over the value has.
     fn count(&self, value: u32) -> Result<u32, Refusal>
@@ -87,14 +76,14 @@ pub trait Host {
 
     /// The item of a loop over the value that stands at this place.
     fn item(&mut self, value: u32, place: u32) -> Result<u32, Refusal>
-        ensures answer { result ≡ answer (meaning self.old) (iterates (meaning self.old) value place) }
-        ensures after { meaning self.new ≡ after (meaning self.old) (iterates (meaning self.old) value place) };
+        ensures { Gives (meaning self.old) (meaning self.new) (iterates (meaning self.old) value place) result };
 
     fn is_true(&self, value: u32) -> Result<bool, Refusal>
         ensures { result ≡ plainly (truth (meaning self.now) value) };
 
-    /// Writes the text of a value to the beginning of `out`. The bytes behind it may be any.
-    fn text(&self, value: u32, out: &mut [u8]) -> Result<Reading, Refusal>
+    /// Writes the text of a value to the beginning of `out`, and tells its length, or none where it is longer than `out`.
+    /// The bytes behind it may be any.
+    fn text(&self, value: u32, out: &mut [u8]) -> Result<Option<usize>, Refusal>
         ensures { shown result out.new ≡ fitted (length out.old) (shows (meaning self.now) value) };
 
     fn is_text(&self, value: u32) -> Result<bool, Refusal>
@@ -107,34 +96,27 @@ pub trait Host {
         ensures { result ≡ (meaning self.now).rules.has_test name.now };
 
     fn make_integer(&mut self, n: i64) -> Result<u32, Refusal>
-        ensures answer { result ≡ answer (meaning self.old) (makes_integer (meaning self.old) n) }
-        ensures after { meaning self.new ≡ after (meaning self.old) (makes_integer (meaning self.old) n) };
+        ensures { Gives (meaning self.old) (meaning self.new) (makes_integer (meaning self.old) n) result };
 
     fn make_text(&mut self, text: &[u8]) -> Result<u32, Refusal>
-        ensures answer { result ≡ answer (meaning self.old) (makes_text (meaning self.old) text.now) }
-        ensures after { meaning self.new ≡ after (meaning self.old) (makes_text (meaning self.old) text.now) };
+        ensures { Gives (meaning self.old) (meaning self.new) (makes_text (meaning self.old) text.now) result };
 
     fn make_list(&mut self, items: &[u32]) -> Result<u32, Refusal>
-        ensures answer { result ≡ answer (meaning self.old) (makes_list (meaning self.old) items.now) }
-        ensures after { meaning self.new ≡ after (meaning self.old) (makes_list (meaning self.old) items.now) };
+        ensures { Gives (meaning self.old) (meaning self.new) (makes_list (meaning self.old) items.now) result };
 
     fn unary(&mut self, op: Unary, value: u32) -> Result<u32, Refusal>
-        ensures answer { result ≡ answer (meaning self.old) (unary_gives (meaning self.old) op value) }
-        ensures after { meaning self.new ≡ after (meaning self.old) (unary_gives (meaning self.old) op value) };
+        ensures { Gives (meaning self.old) (meaning self.new) (unary_gives (meaning self.old) op value) result };
 
     fn binary(&mut self, op: Binary, left: u32, right: u32) -> Result<u32, Refusal>
-        ensures answer { result ≡ answer (meaning self.old) (binary_gives (meaning self.old) op left right) }
-        ensures after { meaning self.new ≡ after (meaning self.old) (binary_gives (meaning self.old) op left right) };
+        ensures { Gives (meaning self.old) (meaning self.new) (binary_gives (meaning self.old) op left right) result };
 
     fn filter(&mut self, name: &[u8], args: &[u32]) -> Result<u32, Refusal>
-        ensures answer { result ≡ answer (meaning self.old) (filters (meaning self.old) name.now args.now) }
-        ensures after { meaning self.new ≡ after (meaning self.old) (filters (meaning self.old) name.now args.now) };
+        ensures { Gives (meaning self.old) (meaning self.new) (filters (meaning self.old) name.now args.now) result };
 
     fn test(&self, name: &[u8], args: &[u32]) -> Result<bool, Refusal>
         ensures { result ≡ plainly (tests (meaning self.now) name.now args.now) };
 
     /// Calls a value as a function.
     fn call(&mut self, value: u32, args: &[u32]) -> Result<u32, Refusal>
-        ensures answer { result ≡ answer (meaning self.old) (calls (meaning self.old) value args.now) }
-        ensures after { meaning self.new ≡ after (meaning self.old) (calls (meaning self.old) value args.now) };
+        ensures { Gives (meaning self.old) (meaning self.new) (calls (meaning self.old) value args.now) result };
 }

@@ -2,46 +2,36 @@
 ghost use Rattle.std.specs.Prelude.{◌≡◌};
 ghost use Rattle.hosts.specs.Reasons.{number as number_of};
 
+/// Each has the number that a fault of the host carries.
 #[derive(Clone, Copy, PartialEq, Eq, Debug)]
 pub enum Reason {
     /// The code is no place in the list of values.
-    NoSuchValue,
+    NoSuchValue = 1,
     /// The operation does not take a value of this kind.
-    WrongKind,
+    WrongKind = 2,
     /// The result is no 64-bit signed integer.
-    Overflow,
+    Overflow = 3,
     /// The host does not have this operation.
-    NoSuchOperation,
+    NoSuchOperation = 4,
     /// An attribute or an item of undefined.
-    Undefined,
+    Undefined = 5,
     /// The value cannot be iterated.
-    NotIterable,
+    NotIterable = 6,
     /// The value has no text.
-    NoText,
+    NoText = 7,
     /// The value cannot be called.
-    NotCallable,
+    NotCallable = 8,
     /// The filter or test is not known, or does not take these arguments.
-    BadArguments,
+    BadArguments = 9,
     /// The host has no lists.
-    NoLists,
+    NoLists = 10,
 }
 
 impl Reason {
-    /// The number that a fault of the host carries.
+    /// The number of this reason.
     pub fn number(self) -> u32
         ensures { result ≡ number_of self }
     {
-        match self {
-            Reason::NoSuchValue => 1,
-            Reason::WrongKind => 2,
-            Reason::Overflow => 3,
-            Reason::NoSuchOperation => 4,
-            Reason::Undefined => 5,
-            Reason::NotIterable => 6,
-            Reason::NoText => 7,
-            Reason::NotCallable => 8,
-            Reason::BadArguments => 9,
-            Reason::NoLists => 10,
-        }
+        self as u32
     }
 }

@@ -2,8 +2,8 @@
 use Rattle.std.specs.Prelude.{ℕ, Bool, true, false, ◌&&◌, ◌||◌, ◌==◌, nat_le, nat_lt}
 use Rattle.layout.specs.declared.records.InstructionRecord.{InstructionRecord}
 use Rattle.layout.specs.declared.records.ConstantRecord.{ConstantRecord}
-use Rattle.instruction.specs.declared.kind.Fields.{Fields}
-use Rattle.instruction.specs.declared.kind.Fields.TheVariants as takes
+use Rattle.instruction.specs.declared.fields.Fields.{Fields}
+use Rattle.instruction.specs.declared.fields.Fields.TheVariants as takes
 
 -- what an instruction takes of its record; a kind that is left out is not allowed, and takes nothing
 pub record Uses : Type 0 where

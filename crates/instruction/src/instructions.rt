@@ -1,13 +1,29 @@
+ghost use Rattle.std.specs.Prelude.{◌≡◌};
+ghost use Rattle.instruction.specs.Kinds.{mode_of};
+ghost use Rattle.instruction.specs.Seen.{mode_seen};
+
 use crate::local_id::LocalId;
+use crate::loop_flags::LoopFlags;
 
 // What becomes of captured output: it is kept as a text, or dropped.
-#[derive(Clone, Copy)]
+#[derive(Clone, Copy, PartialEq, Eq, Debug)]
 pub enum CaptureMode {
     Capture,
     Discard,
 }
 
-#[derive(Clone, Copy)]
+impl From<u8> for CaptureMode {
+    ghost from_gives = { λ small mode. mode_seen mode ≡ mode_of small };
+
+    fn from(small: u8) -> CaptureMode {
+        match small {
+            0 => CaptureMode::Capture,
+            _ => CaptureMode::Discard,
+        }
+    }
+}
+
+#[derive(Clone, Copy, PartialEq, Eq, Debug)]
 pub enum Constant<'b> {
     Undefined,
     Bool(bool),
@@ -16,7 +32,7 @@ pub enum Constant<'b> {
 }
 
 // The instructions of the machine. Names and texts are parts of the bundle.
-#[derive(Clone, Copy)]
+#[derive(Clone, Copy, PartialEq, Eq, Debug)]
 pub enum Instruction<'b> {
     EmitRaw(&'b [u8]),
     StoreLocal(&'b [u8]),
@@ -45,7 +61,7 @@ pub enum Instruction<'b> {
     ApplyFilter(&'b [u8], u16, LocalId),
     PerformTest(&'b [u8], u16, LocalId),
     Emit,
-    PushLoop(u8),
+    PushLoop(LoopFlags),
     PushWith,
     Iterate(u32),
     PushDidNotIterate,

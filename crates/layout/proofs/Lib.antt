@@ -1,4 +1,4 @@
-pub mod Clipped
 pub mod Listed
 pub mod EachBelow
+pub mod Found
 pub mod CountBelow

@@ -4,6 +4,7 @@ use Rattle.layout.specs.declared.section.Section.{Section}
 use Rattle.layout.specs.declared.section.Section.TheVariants.{Templates, Blocks, Codes, Instructions, Constants, Text}
 use Rattle.layout.specs.declared.section.Extent.{Extent}
 use Rattle.layout.specs.declared.section.Header.{Header}
+use Rattle.layout.specs.declared.records.Span.{Span}
 use Rattle.layout.specs.declared.records.TemplateRecord.{TemplateRecord}
 use Rattle.layout.specs.declared.records.BlockRecord.{BlockRecord}
 use Rattle.layout.specs.declared.records.CodeRecord.{CodeRecord}
@@ -61,28 +62,22 @@ size Text = 1
 abbrev pub at : List ℕ → Section → ℕ → ℕ
 at b s i = start b s + size s * i
 
--- the fields of the record with the number i, in their order
-abbrev pub template : List ℕ → ℕ → TemplateRecord
-template b i = let p : ℕ = at b Templates i in record {
-  name_offset = u32 b p;
-  name_length = u32 b (p + 4);
-  main = u32 b (p + 8);
-  first_block = u32 b (p + 12);
-  block_count = u32 b (p + 16);
-}
+-- so many records or bytes, one after another: from which number on, and how many
+abbrev pub span : ℕ → ℕ → Span
+span f n = record { first = f; count = n }
+
+abbrev pub span_at : List ℕ → ℕ → Span
+span_at b p = span (u32 b p) (u32 b (p + 4))
+
+-- the fields of a record that begins at p, in their order
+abbrev pub template_at : List ℕ → ℕ → TemplateRecord
+template_at b p = record { name = span_at b p; main = u32 b (p + 8); blocks = span_at b (p + 12) }
 
 abbrev pub block_at : List ℕ → ℕ → BlockRecord
-block_at b p = record { name_offset = u32 b p; name_length = u32 b (p + 4); code = u32 b (p + 8) }
+block_at b p = record { name = span_at b p; code = u32 b (p + 8) }
 
-abbrev pub block : List ℕ → ℕ → BlockRecord
-block b i = block_at b (at b Blocks i)
-
-abbrev pub code : List ℕ → ℕ → CodeRecord
-code b i = let p : ℕ = at b Codes i in record {
-  first_instruction = u32 b p;
-  instruction_count = u32 b (p + 4);
-  flag = u32 b (p + 8);
-}
+abbrev pub code_at : List ℕ → ℕ → CodeRecord
+code_at b p = record { instructions = span_at b p; flag = u32 b (p + 8) }
 
 abbrev pub instruction_at : List ℕ → ℕ → InstructionRecord
 instruction_at b p = record {
@@ -95,12 +90,25 @@ instruction_at b p = record {
   zero = u16 b (p + 14);
 }
 
+abbrev pub constant_at : List ℕ → ℕ → ConstantRecord
+constant_at b p = record { kind = u32 b p; a = u32 b (p + 4); b = u32 b (p + 8) }
+
+-- the record with the number i
+abbrev pub template : List ℕ → ℕ → TemplateRecord
+template b i = template_at b (at b Templates i)
+
+abbrev pub block : List ℕ → ℕ → BlockRecord
+block b i = block_at b (at b Blocks i)
+
+abbrev pub code : List ℕ → ℕ → CodeRecord
+code b i = code_at b (at b Codes i)
+
 abbrev pub instruction : List ℕ → ℕ → InstructionRecord
 instruction b i = instruction_at b (at b Instructions i)
 
 abbrev pub constant : List ℕ → ℕ → ConstantRecord
-constant b i = let p : ℕ = at b Constants i in record { kind = u32 b p; a = u32 b (p + 4); b = u32 b (p + 8) }
+constant b i = constant_at b (at b Constants i)
 
--- the part of the text section with this offset and length
-abbrev pub text : List ℕ → ℕ → ℕ → List ℕ
-text b offset length = take length (drop (start b Text + offset) b)
+-- the part of the text section that a record names
+abbrev pub text : List ℕ → Span → List ℕ
+text b s = take s.count (drop (start b Text + s.first) b)

@@ -1,29 +1,32 @@
 // The records of the sections as they stand in the bytes: numbers, not yet known to mean anything.
 
-#[derive(Clone, Copy)]
-pub struct TemplateRecord {
-    pub name_offset: u32,
-    pub name_length: u32,
-    pub main: u32,
-    pub first_block: u32,
-    pub block_count: u32,
+// So many records of a section, one after another; of the text section, so many bytes.
+#[derive(Clone, Copy, PartialEq, Eq, Debug)]
+pub struct Span {
+    pub first: u32,
+    pub count: u32,
 }
 
-#[derive(Clone, Copy)]
+#[derive(Clone, Copy, PartialEq, Eq, Debug)]
+pub struct TemplateRecord {
+    pub name: Span,
+    pub main: u32,
+    pub blocks: Span,
+}
+
+#[derive(Clone, Copy, PartialEq, Eq, Debug)]
 pub struct BlockRecord {
-    pub name_offset: u32,
-    pub name_length: u32,
+    pub name: Span,
     pub code: u32,
 }
 
-#[derive(Clone, Copy)]
+#[derive(Clone, Copy, PartialEq, Eq, Debug)]
 pub struct CodeRecord {
-    pub first_instruction: u32,
-    pub instruction_count: u32,
+    pub instructions: Span,
     pub flag: u32,
 }
 
-#[derive(Clone, Copy)]
+#[derive(Clone, Copy, PartialEq, Eq, Debug)]
 pub struct InstructionRecord {
     pub kind: u8,
     pub small: u8,
@@ -34,7 +37,7 @@ pub struct InstructionRecord {
     pub zero: u16,
 }
 
-#[derive(Clone, Copy)]
+#[derive(Clone, Copy, PartialEq, Eq, Debug)]
 pub struct ConstantRecord {
     pub kind: u32,
     pub a: u32,

@@ -2,6 +2,7 @@
 use console::escape::Escaped;
 use instruction::instructions::{CaptureMode, Constant, Instruction};
 use instruction::local_id::LocalId;
+use instruction::loop_flags::LoopFlags;
 use std::fmt;
 
 #[derive(Clone, Copy)]
@@ -71,27 +72,27 @@ fn show_operands<W: fmt::Write>(
     instruction: Instruction<'_>,
 ) -> fmt::Result {
     match instruction {
-        Instruction::EmitRaw(text) => show_text(f, text),
-        Instruction::StoreLocal(name) => show_text(f, name),
-        Instruction::Lookup(name) => show_text(f, name),
-        Instruction::GetAttr(name) => show_text(f, name),
-        Instruction::CallBlock(name) => show_text(f, name),
+        Instruction::EmitRaw(text)
+        | Instruction::StoreLocal(text)
+        | Instruction::Lookup(text)
+        | Instruction::GetAttr(text)
+        | Instruction::CallBlock(text) => show_text(f, text),
         Instruction::LoadConst(constant) => show_constant(f, constant),
         Instruction::BuildList(count) => write!(f, " {count}"),
-        Instruction::ApplyFilter(name, count, local) => show_cached(f, name, count, local),
-        Instruction::PerformTest(name, count, local) => show_cached(f, name, count, local),
-        Instruction::CallFunction(name, count) => write!(
-            f,
-            " \"{}\" arguments {count}",
-            Escaped(name)
-        ),
+        Instruction::ApplyFilter(name, count, local)
+        | Instruction::PerformTest(name, count, local) => {
+            show_call(f, name, count)?;
+            show_slot(f, local)
+        }
+        Instruction::CallFunction(name, count) => show_call(f, name, count),
         Instruction::PushLoop(flags) => f.write_str(flag_words(flags)),
-        Instruction::Iterate(target) => write!(f, " -> {target}"),
-        Instruction::Jump(target) => write!(f, " -> {target}"),
-        Instruction::JumpIfFalse(target) => write!(f, " -> {target}"),
-        Instruction::JumpIfFalseOrPop(target) => write!(f, " -> {target}"),
-        Instruction::JumpIfTrueOrPop(target) => write!(f, " -> {target}"),
-        Instruction::BeginCapture(mode) => f.write_str(mode_words(mode)),
+        Instruction::Iterate(target)
+        | Instruction::Jump(target)
+        | Instruction::JumpIfFalse(target)
+        | Instruction::JumpIfFalseOrPop(target)
+        | Instruction::JumpIfTrueOrPop(target) => write!(f, " -> {target}"),
+        Instruction::BeginCapture(CaptureMode::Capture) => f.write_str(" Capture"),
+        Instruction::BeginCapture(CaptureMode::Discard) => f.write_str(" Discard"),
         _ => Ok(()),
     }
 }
@@ -109,31 +110,22 @@ fn show_constant<W: fmt::Write>(f: &mut fmt::Formatter<W>, constant: Constant<'_
     }
 }
 
-fn show_cached<W: fmt::Write>(
-    f: &mut fmt::Formatter<W>,
-    name: &[u8],
-    count: u16,
-    local: LocalId,
-) -> fmt::Result {
-    write!(f, " \"{}\" arguments {count}", Escaped(name))?;
+fn show_call<W: fmt::Write>(f: &mut fmt::Formatter<W>, name: &[u8], count: u16) -> fmt::Result {
+    write!(f, " \"{}\" arguments {count}", Escaped(name))
+}
+
+fn show_slot<W: fmt::Write>(f: &mut fmt::Formatter<W>, local: LocalId) -> fmt::Result {
     match local.slot() {
         Some(slot) => write!(f, " slot {slot}"),
         None => f.write_str(" no slot"),
     }
 }
 
-fn flag_words(flags: u8) -> &'static str {
-    match flags {
-        0 => " flags 0",
-        1 => " flags 1 (loop variable)",
-        2 => " flags 2 (recursive)",
-        _ => " flags 3 (loop variable, recursive)",
-    }
-}
-
-fn mode_words(mode: CaptureMode) -> &'static str {
-    match mode {
-        CaptureMode::Capture => " Capture",
-        CaptureMode::Discard => " Discard",
+fn flag_words(flags: LoopFlags) -> &'static str {
+    match (flags.has_loop_var(), flags.is_recursive()) {
+        (false, false) => " flags 0",
+        (true, false) => " flags 1 (loop variable)",
+        (false, true) => " flags 2 (recursive)",
+        (true, true) => " flags 3 (loop variable, recursive)",
     }
 }

@@ -3,36 +3,47 @@
 // no path leads.
 #![tactic(auto)]
 
+ghost use Rattle.std.specs.Prelude.{◌≡◌, IfOk, length, string_bytes};
+ghost use Rattle.std.specs.Io.{StartsWith};
+ghost use Rattle.listing.specs.Size.{size_line};
+
+mod code;
 mod instructions;
 
-use bundle::view::{Block, Code, Examined, Template};
+use bundle::view::{Block, Examined, Template};
+use code::ListedCode;
 use console::escape::Escaped;
-use instruction::instructions::Instruction;
-use instructions::Listed;
-use layout::section::{Extent, Header};
-use opening::check_code;
-use standing::MAX_MARKS;
-use standing::table::Table;
+use layout::section::{Header, Section};
 use std::alloc::{AllocError, Global};
 use std::fmt;
 
+// The header of a bundle and its templates.
 #[derive(Clone, Copy)]
-struct Listing<'b>(Examined<'b>);
+struct Parts<'b>(Examined<'b>);
 
-pub fn list(heap: Global, bundle: Examined<'_>) -> Result<String, AllocError> {
-    format!(in heap; "{}", Listing(bundle))
+fn size_line(heap: Global, size: usize) -> Result<String, AllocError>
+    ensures { IfOk result (λ s. string_bytes s ≡ size_line size) }
+{
+    format!(in heap; "{size} bytes\n")
 }
 
-impl fmt::Display for Listing<'_> {
+// A listing of the bundle. It begins with the line that says how many bytes the bundle has.
+pub fn list(heap: Global, bundle: Examined<'_>) -> Result<String, AllocError>
+    ensures { IfOk result (λ s. StartsWith (string_bytes s) (size_line (length bundle.entry.layout.bytes.now))) }
+{
+    let size = size_line(heap, bundle.bytes().len())?;
+    let parts = Parts(bundle).to_string(heap)?;
+    format!(in heap; "{size}{parts}")
+}
+
+impl fmt::Display for Parts<'_> {
     fn fmt<W: fmt::Write>(&self, f: &mut fmt::Formatter<W>) -> fmt::Result {
         let bundle = self.0;
         let header = bundle.header();
-        writeln!(f, "{} bytes", bundle.bytes().len())?;
         show_header(f, header)?;
-        let mut table = Table::new();
         for number in 0..header.templates.count {
             if let Some(template) = bundle.template(number) {
-                show_template(f, number, template, &mut table)?;
+                write!(f, "{}", ListedTemplate { number, template })?;
             }
         }
         Ok(())
@@ -41,121 +52,81 @@ impl fmt::Display for Listing<'_> {
 
 fn show_header<W: fmt::Write>(f: &mut fmt::Formatter<W>, header: Header) -> fmt::Result {
     writeln!(f, "  section       count  offset")?;
-    show_extent(f, "templates", header.templates)?;
-    show_extent(f, "blocks", header.blocks)?;
-    show_extent(f, "codes", header.codes)?;
-    show_extent(f, "instructions", header.instructions)?;
-    show_extent(f, "constants", header.constants)?;
-    show_extent(f, "text", header.text)
+    let extents = [
+        (Section::Templates, header.templates),
+        (Section::Blocks, header.blocks),
+        (Section::Codes, header.codes),
+        (Section::Instructions, header.instructions),
+        (Section::Constants, header.constants),
+        (Section::Text, header.text),
+    ];
+    for (section, extent) in extents {
+        writeln!(
+            f,
+            "  {section:<12} {:>6}  {:>6}",
+            extent.count, extent.offset
+        )?;
+    }
+    Ok(())
 }
 
-fn show_extent<W: fmt::Write>(
-    f: &mut fmt::Formatter<W>,
-    name: &str,
-    extent: Extent,
-) -> fmt::Result {
-    writeln!(f, "  {name:<12} {:>6}  {:>6}", extent.count, extent.offset)
-}
-
-fn show_template<W: fmt::Write>(
-    f: &mut fmt::Formatter<W>,
+#[derive(Clone, Copy)]
+struct ListedTemplate<'b> {
     number: u32,
-    template: Template<'_>,
-    table: &mut Table,
-) -> fmt::Result {
-    let main = template.main();
-    writeln!(f)?;
-    writeln!(f, "template {number} \"{}\"", Escaped(template.name()))?;
-    writeln!(f, "  main, code {}", main.number)?;
-    show_code(f, main, table)?;
-    for place in 0..template.block_count() {
-        if let Some(block) = template.block(place) {
-            show_block(
-                f,
-                template.raw.first_block as u64 + place as u64,
-                block,
-                table,
-            )?;
-        }
+    template: Template<'b>,
+}
+
+impl<'b> ListedTemplate<'b> {
+    // The block at this place among the blocks of the template.
+    fn block(self, place: u32) -> Option<ListedBlock<'b>> {
+        let block = self.template.block(place)?;
+        let number = self.template.raw.blocks.first as u64 + place as u64;
+        Some(ListedBlock { number, block })
     }
-    Ok(())
 }
 
-fn show_block<W: fmt::Write>(
-    f: &mut fmt::Formatter<W>,
-    number: u64,
-    block: Block<'_>,
-    table: &mut Table,
-) -> fmt::Result {
-    let code = block.code();
-    let required = if code.is_required_block() {
-        ", required"
-    } else {
-        ""
-    };
-    writeln!(
-        f,
-        "  block {number} \"{}\", code {}{required}",
-        Escaped(block.name()),
-        code.number
-    )?;
-    show_code(f, code, table)
-}
-
-// The instructions of a code, each with the operands and the open marks that paths bring to it.
-fn show_code<W: fmt::Write>(
-    f: &mut fmt::Formatter<W>,
-    code: Code<'_>,
-    table: &mut Table,
-) -> fmt::Result {
-    let _ = check_code(code, table);
-    for place in 0..code.len() {
-        match table.entry(place) {
-            Some(entry) => write!(f, "{place:>8} {:>3}  ", entry.height)?,
-            None => write!(f, "{place:>8}   -  ")?,
-        }
-        if let Some(instruction) = code.get(place) {
-            write!(f, "{}", Listed(instruction))?;
-        }
-        if let Some(line) = code.get_line(place) {
-            write!(f, "   line {line}")?;
-        }
-        show_marks(f, code, place, table)?;
+impl fmt::Display for ListedTemplate<'_> {
+    fn fmt<W: fmt::Write>(&self, f: &mut fmt::Formatter<W>) -> fmt::Result {
+        let template = self.template;
+        let main = template.main();
         writeln!(f)?;
+        writeln!(
+            f,
+            "template {} \"{}\"",
+            self.number,
+            Escaped(template.name())
+        )?;
+        write!(f, "  main, code {}\n{}", main.number, ListedCode(main))?;
+        for place in 0..template.block_count() {
+            if let Some(block) = self.block(place) {
+                write!(f, "{block}")?;
+            }
+        }
+        Ok(())
     }
-    Ok(())
 }
 
-// The open marks at a place, the innermost first.
-fn show_marks<W: fmt::Write>(
-    f: &mut fmt::Formatter<W>,
-    code: Code<'_>,
-    place: u32,
-    table: &Table,
-) -> fmt::Result {
-    let mut inner = inner_mark(table, place);
-    for _ in 0..MAX_MARKS {
-        let Some(opened) = inner else {
-            break;
+#[derive(Clone, Copy)]
+struct ListedBlock<'b> {
+    number: u64,
+    block: Block<'b>,
+}
+
+impl fmt::Display for ListedBlock<'_> {
+    fn fmt<W: fmt::Write>(&self, f: &mut fmt::Formatter<W>) -> fmt::Result {
+        let ListedBlock { number, block } = *self;
+        let code = block.code();
+        let required = if code.is_required_block() {
+            ", required"
+        } else {
+            ""
         };
-        write!(f, "   in {} {opened}", mark_name(code.get(opened)))?;
-        inner = inner_mark(table, opened);
-    }
-    Ok(())
-}
-
-// The place that opened the innermost mark.
-fn inner_mark(table: &Table, place: u32) -> Option<u32> {
-    match table.entry(place) {
-        Some(entry) => entry.inner,
-        None => None,
-    }
-}
-
-fn mark_name(instruction: Option<Instruction<'_>>) -> &'static str {
-    match instruction {
-        Some(Instruction::PushLoop(_)) => "loop",
-        Some(Instruction::BeginCapture(_)) => "capture",
-        _ => "with",
+        writeln!(
+            f,
+            "  block {number} \"{}\", code {}{required}",
+            Escaped(block.name()),
+            code.number
+        )?;
+        write!(f, "{}", ListedCode(code))
     }
 }

@@ -1,14 +1,14 @@
 -- What parts and instructions do to the world: the host grows, and only `write` reaches the sink.
-use Rattle.std.proofs.Common.{◌≡◌, ℕ, ◌+◌, ◌-◌, Bool, true, false, cond, ltb, leb, List, [], ◌∷◌, ◌++◌, length, Some, None, Ok, Err, Option, Result, sym, refl, ap, ◌∙◌, append_assoc, append-nil}
+use Rattle.std.proofs.Common.{◌≡◌, ℕ, ◌+◌, ◌-◌, Bool, true, false, cond, ltb, leb, List, [], ◌∷◌, ◌++◌, length, Some, None, Ok, Err, Option, Result, sym, refl, ap, ◌∙◌, append_assoc, append-nil, rules}
 use Rattle.hosts.specs.Values.{Value}
 use Rattle.hosts.specs.Meaning.{Meaning, Given, fault, given, room, grown}
-use Rattle.hosts.specs.Answers.{answer, after, after_found, shows, makes_text}
+use Rattle.hosts.specs.Answers.{after, after_found}
 use Rattle.hosts.specs.declared.Refusal.{Refusal}
 use Rattle.hosts.specs.declared.Refusal.TheVariants.{Fault as Faulty, Full as HostIsFull}
 use Rattle.operands.specs.declared.operand.Operand.{Operand}
 use Rattle.operands.specs.declared.operand.Operand.TheVariants.{Value as value, Loop as a_loop, Ended as ended}
-use Rattle.machine.specs.State.{Frame, Capture, dropped, kept, World, Body, most_captures, scratch_size, with_captures}
-use Rattle.machine.specs.Parts.{Part, does, bad, stuck, bind, pop_from, pop, pop_all, push, live, plain, plain_all, pop_plain, refused, answered, ask, told, read, push_asked, spell, begin_capture, end_first, end_capture, push_captured, push_frame, scratch}
+use Rattle.machine.specs.State.{Frame, Capture, dropped, kept, World, Body}
+use Rattle.machine.specs.Parts.{Part, does, bad, stuck, bind, pop_from, pop, pop_all, push, live, plain, plain_all, pop_plain, refused, answered, ask, told, read, push_asked, spell, begin_capture, end_first, push_captured, push_frame}
 use Rattle.machine.specs.Laws.{Grown}
 
 pub grown_none : (m : Meaning) → m ≡ grown m []
@@ -60,16 +60,16 @@ either_silent v false x y p q = q
 module _ (v : World) where
   from_silent : (vs : List Operand) (n : ℕ) (b : Body) → Quietly v b.world → Silent v (pop_from vs n b)
   from_silent [] n b q = tt
-  from_silent (x ∷ vs) n b q = either_silent v (ltb n (length (x ∷ vs))) _ _ q tt
+  from_silent (x ∷ vs) n b q = search (rules, either_silent)
 
   pub pop_silent : (n : ℕ) (b : Body) → Quietly v b.world → Silent v (pop n b)
-  pop_silent n b q = from_silent b.operands n b q
+  pop_silent n b q = search (rules, from_silent)
 
   pub pop_all_silent : (n k : ℕ) (b : Body) → Quietly v b.world → Silent v (pop_all n k b)
-  pop_all_silent n k b q = either_silent v (leb (n + k) (length b.operands)) _ _ q tt
+  pop_all_silent n k b q = search (rules, either_silent)
 
   pub push_silent : (x : Operand) (b : Body) → Quietly v b.world → Silent v (push x b)
-  push_silent x b q = either_silent v (ltb (length b.operands) 256) _ _ q q
+  push_silent x b q = search (rules, either_silent)
 
   pub live_silent : (x : Operand) (b : Body) → Quietly v b.world → Silent v (live x b)
   live_silent (value k) b q = q
@@ -83,11 +83,10 @@ module _ (v : World) where
 
   pub plain_all_silent : (vs : List Operand) (b : Body) → Quietly v b.world → Silent v (plain_all vs b)
   plain_all_silent [] b q = q
-  plain_all_silent (x ∷ vs) b q =
-      bind_silent v (plain x b) _ (plain_silent x b q) (λ k c r. bind_silent v (plain_all vs c) _ (plain_all_silent vs c r) (λ ks d s. s))
+  plain_all_silent (x ∷ vs) b q = search (rules, bind_silent, plain_silent, plain_all_silent vs)
 
   pub pop_plain_silent : (n : ℕ) (b : Body) → Quietly v b.world → Silent v (pop_plain n b)
-  pop_plain_silent n b q = bind_silent v (pop n b) plain (pop_silent n b q) plain_silent
+  pop_plain_silent n b q = search (rules, bind_silent, pop_silent, plain_silent)
 
   pub refused_silent : (A : Type 0) (r : Refusal) (b : Body) → Quietly v b.world → Silent {A = A} v (refused r b)
   refused_silent A (Faulty n) b q = q
@@ -98,34 +97,37 @@ module _ (v : World) where
 
   answered_silent : (r : Result ℕ Refusal) (m : Meaning) (b : Body) → Quietly v b.world → Grown b.world.host m → Silent v (answered r m b)
   answered_silent (Ok k) m b q g = quietly_on b.world m q g
-  answered_silent (Err r) m b q g = refused_silent ℕ r b q
+  answered_silent (Err r) m b q g = search (rules, refused_silent)
 
   pub ask_silent : (f : Meaning → Given) (b : Body) → Quietly v b.world → Silent v (ask f b)
-  ask_silent f b q = answered_silent (answer b.world.host (f b.world.host)) _ b q (after_grown b.world.host (f b.world.host))
+  ask_silent f b q = search (rules, answered_silent, after_grown)
 
   told_silent : {A : Type 0} (r : Result A ℕ) (b : Body) → Quietly v b.world → Silent v (told r b)
   told_silent (Ok x) b q = q
   told_silent (Err n) b q = q
 
   pub read_silent : {A : Type 0} (f : Meaning → Result A ℕ) (b : Body) → Quietly v b.world → Silent v (read f b)
-  read_silent f b q = told_silent (f b.world.host) b q
+  read_silent f b q = search (rules, told_silent)
 
   pub push_asked_silent : (f : Meaning → Given) (b : Body) → Quietly v b.world → Silent v (push_asked f b)
-  push_asked_silent f b q = bind_silent v (ask f b) _ (ask_silent f b q) (λ k c r. push_silent (value k) c r)
+  push_asked_silent f b q = search (rules, bind_silent, ask_silent, push_silent)
 
   pub spell_silent : (k : ℕ) (b : Body) → Quietly v b.world → Silent v (spell k b)
-  spell_silent k b q = bind_silent v (read (λ m. shows m k) b) _ (read_silent (λ m. shows m k) b q) (λ t c r. either_silent v (leb (length t) (scratch_size - scratch c.captures)) _ _ r r)
+  spell_silent k b q = search (rules, bind_silent, read_silent, either_silent)
 
   pub begin_capture_silent : (x : Capture) (b : Body) → Quietly v b.world → Silent v (begin_capture x b)
-  begin_capture_silent x b q = either_silent v (ltb (length b.captures) most_captures) _ _ q q
+  begin_capture_silent x b q = search (rules, either_silent)
 
   end_first_silent : (cs : List Capture) (b : Body) → Quietly v b.world → Silent v (end_first cs b)
   end_first_silent [] b q = tt
   end_first_silent (dropped ∷ cs) b q = q
-  end_first_silent (kept t ∷ cs) b q = ask_silent (λ m. makes_text m t) (with_captures b cs) q
+  end_first_silent (kept t ∷ cs) b q = search (rules, ask_silent)
 
   pub push_captured_silent : (b : Body) → Quietly v b.world → Silent v (push_captured b)
-  push_captured_silent b q = bind_silent v (end_capture b) _ (end_first_silent b.captures b q) (λ k c r. push_silent (value k) c r)
+  push_captured_silent b q = search (rules, bind_silent, end_first_silent, push_silent)
 
   pub push_frame_silent : (n : ℕ) (f : Frame) (b : Body) → Quietly v b.world → Silent v (push_frame n f b)
-  push_frame_silent n f b q = either_silent v (ltb (length b.frames) n) _ _ q q
+  push_frame_silent n f b q = search (rules, either_silent)
+
+-- the parts that do not reach the sink
+pub ruleset silences = (rules, bind_silent, either_silent, pop_silent, pop_all_silent, push_silent, live_silent, plain_silent, plain_all_silent, pop_plain_silent, ask_silent, read_silent, push_asked_silent, spell_silent, begin_capture_silent, push_captured_silent, push_frame_silent)

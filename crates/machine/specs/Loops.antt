@@ -1,13 +1,15 @@
 -- Frames, names and loops. It assumes nothing.
 use Rattle.std.specs.Prelude.{ℕ, suc, ◌+◌, min, Bool, true, false, cond, ◌&&◌, ◌||◌, List, [], ◌∷◌, map, length, pos, Some, None, Ok, Err, codes, Option, Result, ◌==◌, nat_lt}
+use Rattle.std.specs.Option.{option_or}
 use Rattle.std.specs.Str.{bytes_eq}
 use Rattle.hosts.specs.Meaning.{Meaning}
 use Rattle.hosts.specs.Answers.{found, after_found, looks_up, makes_integer}
 use Rattle.hosts.specs.declared.Refusal.{Refusal}
 use Rattle.machine.specs.declared.fault.Fault.TheVariants.{Full, BadLoop}
 use Rattle.machine.specs.Outline.{Place, same_place}
+use Rattle.operands.specs.Stack.{forgotten}
 use Rattle.operands.specs.declared.operand.Operand.{Operand}
-use Rattle.operands.specs.declared.operand.Operand.TheVariants.{Value as value, Loop as a_loop, Ended as ended}
+use Rattle.operands.specs.declared.operand.Operand.TheVariants.{Value as value, Loop as a_loop}
 use Rattle.machine.specs.State.{Slots, Loop, Bone, base, scope, block, loop, Local, Frame, kept, Body, most_locals, with_operands, with_frames, with_host}
 use Rattle.machine.specs.Parts.{Part, does, stuck, bind, fails, push, push_asked, refused, begin_capture, truth_code}
 
@@ -58,13 +60,9 @@ lap_by (loop l) n = Some (record { loop = l; turns = n })
 abbrev pub lap_of : Frame → Option Lap
 lap_of f = lap_by f.bone f.turns
 
-abbrev pub or_else : {A : Type 0} → Option A → Option A → Option A
-or_else None y = y
-or_else (Some x) y = Some x
-
 abbrev pub innermost : List Frame → Option Lap
 innermost [] = None
-innermost (f ∷ fs) = or_else (lap_of f) (innermost fs)
+innermost (f ∷ fs) = option_or (lap_of f) (innermost fs)
 
 -- the loop whose frame has so many frames below it
 abbrev pub lap_at : ℕ → List Frame → Option Lap
@@ -85,7 +83,7 @@ own_loop x b n = cond (shows_loop b && bytes_eq x (codes "loop")) (Some (a_loop 
 
 abbrev pub look : List ℕ → List Frame → Option Operand
 look x [] = None
-look x (f ∷ fs) = or_else (or_else (local_in x f.locals) (own_loop x f.bone (length fs))) (look x fs)
+look x (f ∷ fs) = option_or (option_or (local_in x f.locals) (own_loop x f.bone (length fs))) (look x fs)
 
 abbrev pub from_host : Result (Option ℕ) Refusal → Meaning → Body → Part (Option Operand)
 from_host (Ok None) m b = does None (with_host b m)
@@ -171,13 +169,8 @@ did_not_iterate l = min l.turns l.loop.length == 0
 
 -- The values of a loop that ends.
 
-abbrev pub forget : ℕ → Operand → Operand
-forget n (value k) = value k
-forget n (a_loop m) = cond (m == n) ended (a_loop m)
-forget n ended = ended
-
 abbrev pub swept : ℕ → Body → Body
-swept n b = with_operands b (map (forget n) b.operands)
+swept n b = with_operands b (map (forgotten n) b.operands)
 
 -- Recursion goes to the PushLoop of the loop, and only from the loop's own code.
 

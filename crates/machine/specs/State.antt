@@ -4,6 +4,7 @@ use Rattle.hosts.specs.Meaning.{Meaning}
 use Rattle.sinks.specs.Taking.{Taking}
 use Rattle.machine.specs.Outline.{Place, Row}
 use Rattle.machine.specs.declared.fault.Fault.{Fault}
+use Rattle.operands.specs.Stack.{most}
 use Rattle.operands.specs.declared.operand.Operand.{Operand}
 
 -- where a recursion returns to, and whether a capture ends then
@@ -106,7 +107,7 @@ pub data Progress : Type 0 where
   stuck : Progress
 
 abbrev pub most_operands : ℕ
-most_operands = 256
+most_operands = most
 
 abbrev pub most_locals : ℕ
 most_locals = 256

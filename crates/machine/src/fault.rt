@@ -26,7 +26,7 @@ pub enum Fault {
     BadLoop,
     /// A filter, test or function that is not known.
     Unknown,
-    /// A rule of the host is a fault; the number is the host's own.
+    /// A rule of the host is a fault; the number is the host's own, so that no enum of ours can name it.
     Host(u32),
     /// What is to be added would pass a limit of the host.
     HostFull,
@@ -41,6 +41,7 @@ pub enum Layer {
 }
 
 impl Fault {
+    // What a user sees of a fault.
     pub fn number(self) -> u8
         ensures { result ≡ number_of self }
     {
@@ -67,8 +68,7 @@ impl Fault {
     {
         match self {
             Fault::WriteFailure => Layer::Sink,
-            Fault::Host(_) => Layer::Host,
-            Fault::HostFull => Layer::Host,
+            Fault::Host(_) | Fault::HostFull => Layer::Host,
             _ => Layer::Machine,
         }
     }

@@ -12,7 +12,13 @@ use Rattle.causes.specs.Causes.{cause, defect, first_defect, header_rules, refer
 use Rattle.causes.specs.declared.defect.Defect.{Defect}
 use Rattle.causes.proofs.Search.{first_defect_append, kept_none}
 use Rattle.bundle.proofs.Kept.{clean}
-use Rattle.opening.specs.Opening.{code_shapes, AllStand, IsBrokenCode}
+use Rattle.causes.specs.Causes as causes
+use Rattle.opening.specs.Opening.{code_shapes, AllStand, IsBrokenCode, Opens, Lowest, empty_bundle}
+use Rattle.opening.proofs.Empty.{empty_format, empty_stands}
+use Rattle.opening.specs.Refusals.{Shows}
+use Rattle.opening.specs.declared.refusal.Refusal.{Refusal}
+use Rattle.opening.specs.declared.refusal.Refusal.TheVariants.{Format, Standing}
+use Rattle.opening.specs.Opening.Lowest.{none, format, standing}
 use Rattle.opening.proofs.Reading.{code_short, shapes_long}
 
 -- a bundle without causes 1 to 4 has no broken rule
@@ -31,29 +37,42 @@ no_defect b h =
 pub some_defect : (b : List ℕ) (d : Defect) → Some d ≡ defect b → cause b ≡ 0 → ⊥
 some_defect b d e h = let n = no_defect b h in let z : ◌≡◌ {A = ℕ} 0 1 = cc in omega arith
 
--- What the check of a code tells, where the code is one of this bundle: c is its bytes, and k its number, as the code has them.
-module _ (b c : List ℕ) (n k : ℕ) (bytes : c ≡ b) (number : k ≡ n) (clean : cause b ≡ 0) (placed : n < records b Codes) where
-  abbrev Told : (List Shape → Type 0) → Type 0
-  Told P = cause c ≡ 0 → k < records c Codes → P (code_shapes c k)
-
-  as_told : (P : List Shape → Type 0) → Told P → P (code_shapes b n)
-  as_told P t =
-      subst (λ m. P (code_shapes b m)) number
-      (subst (λ (x : List ℕ). P (code_shapes x k)) bytes
-      (t (subst (λ (x : List ℕ). cause x ≡ 0) (sym bytes) clean)
-      (subst (λ (x : List ℕ). k < records x Codes) (sym bytes) (subst (λ m. m < records b Codes) (sym number) placed))))
+-- What the check of a code tells of a code of this bundle: c is its bytes, and k its number, as the code has them.
+module _ (b c : List ℕ) (n k : ℕ) (bytes : c ≡ b) (number : k ≡ n) where
+  as_told : (P : List Shape → Type 0) → P (code_shapes c k) → P (code_shapes b n)
+  as_told P t = subst (λ m. P (code_shapes b m)) number (subst (λ (x : List ℕ). P (code_shapes x k)) bytes t)
 
   -- a code that was judged to stand does
-  pub judged_stands : (U : List Shape → List (Option Entry)) (r : Result (Unit {0}) Broken) → Told (λ xs. Judged xs (U xs) r)
+  pub judged_stands : (U : List Shape → List (Option Entry)) (r : Result (Unit {0}) Broken) → Judged (code_shapes c k) (U (code_shapes c k)) r
       → ((x : Broken) → r ≡ Err x → ⊥) → Stands (code_shapes b n)
   judged_stands U (Ok x) t never = (as_told (λ xs. Judged xs (U xs) (Ok x)) t).stands
   judged_stands U (Err x) t never = absurd (never x refl)
 
   -- one that was judged not to stand does not
-  pub judged_broken : Told (λ xs. length xs ≤ 1024 → Stands xs → ⊥) → IsBrokenCode b n
-  judged_broken t =
+  pub judged_broken : cause b ≡ 0 → n < records b Codes → (length (code_shapes c k) ≤ 1024 → Stands (code_shapes c k) → ⊥) → IsBrokenCode b n
+  judged_broken clean placed t =
       (placed, as_told (λ xs. length xs ≤ 1024 → Stands xs → ⊥) t (omega (arith, code_short b n clean placed, shapes_long b n)))
 
 -- and keeps the bundle from opening
 pub broken_keeps : (b : List ℕ) (c : ℕ) → IsBrokenCode b c → AllStand b → ⊥
 broken_keeps b c w all = w.1 (all c w.0)
+
+-- the answer of the two checks
+pub by_format : (b : List ℕ) (d : Defect) → Some d ≡ defect b → causes.number d.rule ≡ cause b → Lowest b (causes.number d.rule)
+by_format b d e n = subst (Lowest b) (sym n) (format (some_defect b d e))
+
+pub by_standing : (b p : List ℕ) (c : ℕ) → p ≡ b → cause b ≡ 0 → IsBrokenCode p c → IsBrokenCode b c × Lowest b 5
+by_standing b p c e h w =
+    let v = subst (λ (x : List ℕ). IsBrokenCode x c) e w in
+    (v, standing h (broken_keeps b c v))
+
+pub by_none : (b p : List ℕ) → p ≡ b → cause b ≡ 0 → AllStand p → Lowest b 0
+by_none b p e h all = none (record { format = h; standing = subst AllStand e all })
+
+-- a bundle that opens is not refused
+pub opens_or_refused : (b : List ℕ) (r : Refusal) → Opens b → Shows b r → ⊥
+opens_or_refused b (Format d) o s = some_defect b d s o.format
+opens_or_refused b (Standing x) o w = w.1 (o.standing x.code w.0)
+
+pub empty_opens : (r : Refusal) → Shows empty_bundle r → ⊥
+empty_opens r s = opens_or_refused empty_bundle r (record { format = empty_format; standing = empty_stands }) s

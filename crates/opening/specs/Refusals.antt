@@ -23,6 +23,6 @@ abbrev pub number : Option Refusal → ℕ
 number None = 0
 number (Some r) = cause_number r
 
-abbrev pub told : Result (Unit {0}) Refusal → ℕ
+abbrev pub told : {A : Type 0} → Result A Refusal → ℕ
 told (Ok x) = 0
 told (Err r) = cause_number r

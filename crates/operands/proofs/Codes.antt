@@ -1,44 +1,48 @@
--- The codes on top of a stack, read from below.
-use Rattle.std.proofs.Common.{◌≡◌, ℕ, zero, suc, ◌+◌, ◌-◌, ◌<◌, List, [], ◌∷◌, length, get_or, take, set, Some, None, Option, sym, refl, ap, ◌∙◌, add-suc, add-one, arith}
-use Rattle.std.proofs.lemmas.List.{take_more_set}
+-- The codes on top of a stack, of which the array has the bottom first.
+use Rattle.std.proofs.Common.{◌≡◌, ℕ, zero, suc, ◌+◌, ◌-◌, ◌<◌, ◌≤◌, List, [], ◌∷◌, ◌++◌, reverse, length, get_or, take, drop, None, Some, Option, sym, refl, ap, ◌∙◌, add-one, arith, length-drop}
+use Rattle.std.proofs.lemmas.List.{take_all, take_more, reverse-append, length-reverse}
 use Rattle.operands.specs.declared.operand.Operand.{Operand}
-use Rattle.operands.specs.declared.operand.Operand.TheVariants.{Value}
-use Rattle.operands.specs.Stack.{down, code_of, and_code, top_codes}
+use Rattle.operands.specs.Stack.{code_of, and_code, top_codes}
+use Rattle.operands.proofs.Reversed.{reverse-split}
 
 pub too_few : (n : ℕ) (vs : List Operand) → length vs < n → top_codes n vs ≡ None
 too_few zero vs h = absurd (omega arith)
 too_few (suc n) [] h = refl
 too_few (suc n) (v ∷ vs) h = ap (λ o. and_code o (code_of v)) (too_few n vs (omega arith))
 
-module _ (xs : List Operand) (f : ℕ) where
-  abbrev pub SoFar : ℕ → Option (List ℕ)
-  SoFar i = top_codes i (down (Value 0) xs (f + i))
+and_none : (o : Option (List ℕ)) → and_code o None ≡ None
+and_none None = refl
+and_none (Some ks) = refl
 
-  one_more : (i : ℕ) → SoFar (i + 1) ≡ and_code (SoFar i) (code_of (get_or xs (f + i) (Value 0)))
-  one_more i = ap (λ n. top_codes n (down (Value 0) xs (f + n))) (add-one i) ∙ ap (λ n. top_codes (suc i) (down (Value 0) xs n)) (add-suc f i)
+-- one that is no value, at any depth
+stays_none : (vs ws : List Operand) (n m : ℕ) → n ≡ length vs + m → top_codes m ws ≡ None → top_codes n (vs ++ ws) ≡ None
+stays_none [] ws n m h e = let same : n ≡ m = omega arith in ap (λ k. top_codes k ws) same ∙ e
+stays_none (v ∷ vs) ws zero m h e = absurd (omega arith)
+stays_none (v ∷ vs) ws (suc n) m h e = ap (λ o. and_code o (code_of v)) (stays_none vs ws n m (omega arith) e)
 
-  pub next_value : (i k : ℕ) (out : List ℕ) → i < length out → SoFar i ≡ Some (take i out) → get_or xs (f + i) (Value 0) ≡ Value k → SoFar (i + 1) ≡ Some (take (i + 1) (set out i k))
-  next_value i k out h e v =
-      one_more i ∙ ap (λ o. and_code o (code_of (get_or xs (f + i) (Value 0)))) e ∙ ap (λ (o : Operand). and_code (Some (take i out)) (code_of o)) v
-      ∙ ap Some (sym (take_more_set out i k h))
+-- those of the top only
+front : (vs ws : List Operand) (n : ℕ) → n ≤ length vs → top_codes n (vs ++ ws) ≡ top_codes n vs
+front vs ws zero h = refl
+front [] ws (suc n) h = absurd (omega arith)
+front (v ∷ vs) ws (suc n) h = ap (λ o. and_code o (code_of v)) (front vs ws n (omega arith))
 
-  no_more : (i : ℕ) → SoFar i ≡ None → SoFar (i + 1) ≡ None
-  no_more i e = one_more i ∙ ap (λ o. and_code o (code_of (get_or xs (f + i) (Value 0)))) e
+-- the last of the array are the top ones
+pub top_codes-tail : (n k : ℕ) (vs : List Operand) → n + k ≡ length vs → top_codes n (reverse (take (length vs - k) (drop k vs))) ≡ top_codes n (reverse vs)
+top_codes-tail n k vs e =
+    let long = length-drop k vs in
+    ap (λ ws. top_codes n (reverse ws)) (take_all (length vs - k) (drop k vs) (omega arith))
+    ∙ sym (ap (top_codes n) (reverse-split k vs) ∙ front _ _ n (omega (arith, length-reverse (drop k vs))))
 
-  and_none : (o : Option (List ℕ)) → and_code o None ≡ None
-  and_none None = refl
-  and_none (Some ks) = refl
+module _ (vs : List Operand) (i : ℕ) (d : Operand) (h : i < length vs) where
+  reverse_more : reverse (take (i + 1) vs) ≡ get_or vs i d ∷ reverse (take i vs)
+  reverse_more = ap reverse (take_more vs i d h) ∙ reverse-append (take i vs) (get_or vs i d ∷ [])
 
-  no_value : (i : ℕ) → code_of (get_or xs (f + i) (Value 0)) ≡ None → SoFar (i + 1) ≡ None
-  no_value i e = one_more i ∙ ap (and_code (SoFar i)) e ∙ and_none (SoFar i)
+  pub next_codes : top_codes (i + 1) (reverse (take (i + 1) vs)) ≡ and_code (top_codes i (reverse (take i vs))) (code_of (get_or vs i d))
+  next_codes = ap (top_codes (i + 1)) reverse_more ∙ ap (λ n. top_codes n (get_or vs i d ∷ reverse (take i vs))) (add-one i)
 
-  stays_none : (i j : ℕ) → SoFar i ≡ None → SoFar (i + j) ≡ None
-  stays_none i zero e = let h : i + 0 ≡ i = omega arith in ap SoFar h ∙ e
-  stays_none i (suc j) e = let h : i + suc j ≡ (i + j) + 1 = omega arith in ap SoFar h ∙ no_more (i + j) (stays_none i j e)
-
-  -- one operand that is no value
-  pub none_at : (i n h : ℕ) → i < n → f + n ≡ h → code_of (get_or xs (f + i) (Value 0)) ≡ None → None ≡ top_codes n (down (Value 0) xs h)
-  none_at i n h l e v = by ((n - i) - 1) (omega arith)
-    where
-      by : (j : ℕ) → n ≡ (i + 1) + j → None ≡ top_codes n (down (Value 0) xs h)
-      by j w = sym (ap (λ m. top_codes n (down (Value 0) xs m)) (sym e) ∙ ap SoFar w ∙ stays_none (i + 1) j (no_value i v))
+  pub none_at : code_of (get_or vs i d) ≡ None → top_codes (length vs) (reverse vs) ≡ None
+  none_at e =
+      let below = drop (i + 1) vs in
+      ap (top_codes (length vs)) (reverse-split (i + 1) vs)
+      ∙ stays_none (reverse below) (reverse (take (i + 1) vs)) (length vs) (i + 1) (omega (arith, length-reverse below, length-drop (i + 1) vs))
+      (next_codes ∙ ap (and_code (top_codes i (reverse (take i vs)))) e ∙ and_none (top_codes i (reverse (take i vs))))

@@ -1,2 +1,2 @@
-mod Down
+mod Reversed
 mod Codes

@@ -1,19 +1,10 @@
 -- Operands as a list, the top first.
-use Rattle.std.specs.Prelude.{ℕ, zero, suc, Bool, true, false, cond, List, [], ◌∷◌, ◌++◌, length, drop, Some, None, Option, ◌==◌, nat_lt, slice_index_or}
+use Rattle.std.specs.Prelude.{ℕ, zero, suc, cond, List, [], ◌∷◌, ◌++◌, length, drop, Some, None, Option, ◌==◌, nat_lt}
 use Rattle.operands.specs.declared.operand.Operand.{Operand}
 use Rattle.operands.specs.declared.operand.Operand.TheVariants.{Value, Loop, Ended}
-use Rattle.operands.specs.declared.stack.Operands.{Operands}
 
 abbrev pub most : ℕ
 most = 256
-
--- the first n of an array, the last of them first
-abbrev pub down : {A : Type 0} → A → List A → ℕ → List A
-down d xs zero = []
-down d xs (suc n) = slice_index_or xs n d ∷ down d xs n
-
-abbrev pub operands : Operands → List Operand
-operands o = down (Value 0) o.items o.height
 
 abbrev pub head : {A : Type 0} → List A → Option A
 head [] = None
@@ -43,9 +34,10 @@ top_codes zero vs = Some []
 top_codes (suc n) [] = None
 top_codes (suc n) (v ∷ vs) = and_code (top_codes n vs) (code_of v)
 
-abbrev pub codes_if : Bool → List ℕ → Option (List ℕ)
-codes_if true ks = Some ks
-codes_if false ks = None
+-- the codes that were written, if all of them could be
+abbrev pub codes_if : Option (Unit {0}) → List ℕ → Option (List ℕ)
+codes_if None ks = None
+codes_if (Some x) ks = Some ks
 
 -- an operand after the loop of this frame has ended
 abbrev pub forgotten : ℕ → Operand → Operand

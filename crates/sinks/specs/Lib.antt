@@ -1,3 +1,2 @@
 pub mod Taking
-pub mod Answers
 pub mod Empty

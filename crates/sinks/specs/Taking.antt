@@ -1,5 +1,5 @@
-use Rattle.std.specs.Prelude.{ℕ, ◌+◌, Bool, true, false, cond, List, [], ◌∷◌, ◌++◌, length, take, drop, nat_le}
-use Rattle.std.specs.Str.{bytes_eq}
+use Rattle.std.specs.Prelude.{ℕ, ◌+◌, Bool, cond, List, ◌++◌, length, take, drop, nat_eq, nat_le}
+use Rattle.std.specs.List.{starts_with}
 
 -- The meaning of a sink. Its rule never changes, and tells from the text so far and a piece whether that piece may
 -- come next.
@@ -24,12 +24,8 @@ buffering len buffer = record { text = take len buffer; rule = fits (length buff
 
 -- The rule of a comparison with an expected text: it accepts what continues it.
 abbrev pub continues : List ℕ → List ℕ → List ℕ → Bool
-continues expected text piece = bytes_eq (take (length piece) (drop (length text) expected)) piece
+continues expected text piece = starts_with nat_eq (drop (length text) expected) piece
 
 -- What a comparison means that has seen the first `seen` bytes of the expected text.
 abbrev pub matching : ℕ → List ℕ → Taking
 matching seen expected = record { text = take seen expected; rule = continues expected }
-
--- A buffer with `piece` put at `at`: all other bytes are the ones before.
-abbrev pub overwritten : ℕ → List ℕ → List ℕ → List ℕ
-overwritten at piece buffer = take at buffer ++ (piece ++ drop (at + length piece) buffer)

@@ -1,23 +1,18 @@
 // Where the text of a run goes.
 #![tactic(auto)]
 
-ghost use Rattle.std.specs.Prelude.{◌≡◌, true, []};
+ghost use Rattle.std.specs.Prelude.{◌≡◌, true, [], is_ok};
 ghost use Rattle.sinks.specs.Taking.{Taking, accepts, offered};
-ghost use Rattle.sinks.specs.Answers.{told};
 
 mod buffer;
 mod matching;
-mod room;
 
 pub use buffer::BufferSink;
 pub use matching::MatchingSink;
 
-/// A sink refuses a piece; it is as it was before.
+/// The rule of the sink does not accept the piece now; the sink is as it was before.
 #[derive(Clone, Copy, PartialEq, Eq, Debug)]
-pub enum Refused {
-    /// The rule of the sink does not accept this piece now.
-    Piece,
-}
+pub struct Refused;
 
 /// Gets text piece by piece. It is known by the text that it has, and by a rule for the pieces that may follow; no rule
 /// turns the empty piece away.
@@ -28,7 +23,7 @@ pub trait Sink {
 
     /// Takes an accepted piece whole, and refuses any other without effect.
     fn write(&mut self, piece: &[u8]) -> Result<(), Refused>
-        ensures answer { told result ≡ accepts (meaning self.old) piece.now }
+        ensures answer { is_ok result ≡ accepts (meaning self.old) piece.now }
         ensures after { meaning self.new ≡ offered (meaning self.old) piece.now };
 }
 

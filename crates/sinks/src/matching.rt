@@ -1,8 +1,7 @@
 // A sink that compares with an expected text.
-ghost use Rattle.std.specs.Prelude.{◌≡◌, ◌+◌, ◌≤◌, [], length, take};
+ghost use Rattle.std.specs.Prelude.{◌≡◌, ◌+◌, ◌≤◌, [], IsTrue, length, take};
 ghost use Rattle.sinks.specs.Taking.{continues, matching};
 ghost use Rattle.sinks.specs.Empty.{continues_empty};
-ghost use Rattle.std.specs.Str.{bytes_eq};
 
 use crate::{Refused, Sink};
 
@@ -10,6 +9,7 @@ use crate::{Refused, Sink};
 #[derive(Drop)]
 pub struct MatchingSink<'a> {
     expected: &'a [u8],
+    // how much of it was taken: the text is lent
     seen: usize,
     ghost within: { seen ≤ length expected.now },
 }
@@ -28,6 +28,13 @@ impl<'a> MatchingSink<'a> {
     {
         &self.expected[..self.seen]
     }
+
+    fn is_next(&self, piece: &[u8]) -> bool
+        ensures rule { result ≡ continues self.now.expected.now (take self.now.seen self.now.expected.now) piece.now }
+        ensures fits { IsTrue result → self.now.seen + length piece.now ≤ length self.now.expected.now }
+    {
+        self.expected[self.seen..].starts_with(piece)
+    }
 }
 
 impl Sink for MatchingSink<'_> {
@@ -35,22 +42,12 @@ impl Sink for MatchingSink<'_> {
 
     ghost empty = { λ s. continues_empty s.expected.now (take s.seen s.expected.now) };
 
+    #[tactic(auto, using(crate::proofs::Offers::matched))]
     fn write(&mut self, piece: &[u8]) -> Result<(), Refused> {
-        let at = self.seen;
-        if piece.len() > self.expected.len() - at {
-            return Err(Refused::Piece);
+        if !self.is_next(piece) {
+            return Err(Refused);
         }
-        let end = at + piece.len();
-        if !same(&self.expected[at..end], piece) {
-            return Err(Refused::Piece);
-        }
-        self.seen = end;
+        self.seen += piece.len();
         Ok(())
     }
-}
-
-fn same(a: &[u8], b: &[u8]) -> bool
-    ensures { result ≡ bytes_eq a.now b.now }
-{
-    a == b
 }

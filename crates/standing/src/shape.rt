@@ -1,13 +1,37 @@
+ghost use Rattle.std.specs.Prelude.{◌≡◌};
+ghost use Rattle.std.specs.Result.{result_err};
+ghost use Rattle.standing.specs.Standing.{unless, is_capture, is_loop};
+ghost use Rattle.standing.specs.Paths.{shape_at};
+ghost use Rattle.standing.specs.Entries.{opens_mark};
+ghost use Rattle.standing.specs.declared.shape.Shape.TheVariants.{Plain};
+
+use std::error::Error;
+use std::fmt;
+
 // What opens a mark: a `with`, a capture, or a loop, which is recursive or not.
-#[derive(Clone, Copy)]
+#[derive(Clone, Copy, PartialEq, Eq, Debug)]
 pub enum MarkKind {
     Scope,
     Capture,
     Loop { recursive: bool },
 }
 
+impl MarkKind {
+    pub(crate) fn is_loop(self) -> bool
+        ensures { result ≡ is_loop self }
+    {
+        matches!(self, MarkKind::Loop { .. })
+    }
+
+    pub(crate) fn is_capture(self) -> bool
+        ensures { result ≡ is_capture self }
+    {
+        matches!(self, MarkKind::Capture)
+    }
+}
+
 // An open mark: the place of the instruction that opened it, what it is, and the operand height at which it opened.
-#[derive(Clone, Copy)]
+#[derive(Clone, Copy, PartialEq, Eq, Debug)]
 pub struct Mark {
     pub place: u32,
     pub kind: MarkKind,
@@ -15,7 +39,7 @@ pub struct Mark {
 }
 
 // What an instruction does to the operand height and the open marks, and where control goes on.
-#[derive(Clone, Copy)]
+#[derive(Clone, Copy, PartialEq, Eq, Debug)]
 pub enum Shape {
     // takes so many operands, and gives so many
     Plain { takes: u16, gives: u16 },
@@ -36,8 +60,41 @@ pub enum Shape {
     Load,
 }
 
+impl Default for Shape {
+    ghost is_default = { λ shape. shape ≡ Plain 0 0 };
+
+    fn default() -> Shape {
+        Shape::Plain { takes: 0, gives: 0 }
+    }
+}
+
+impl Shape {
+    // The mark that the instruction opens at a height.
+    pub(crate) fn opens(self, place: u32, height: u32) -> Option<Mark>
+        ensures { result ≡ opens_mark place self height }
+    {
+        match self {
+            Shape::Opens { kind, takes } => Some(Mark {
+                place,
+                kind,
+                height: height.saturating_sub(takes as u32),
+            }),
+            _ => None,
+        }
+    }
+}
+
+// The shape of the instruction at a place of the code.
+pub(crate) fn shape_at(code: &[Shape], place: u32) -> Shape
+    ensures { result ≡ shape_at code.now place }
+{
+    code.get(place as usize)
+        .copied()
+        .unwrap_or(Shape::Plain { takes: 0, gives: 0 })
+}
+
 // Why an instruction cannot stand where a path brings it, or why what it leaves cannot stand.
-#[derive(Clone, Copy)]
+#[derive(Clone, Copy, PartialEq, Eq, Debug)]
 pub enum Reason {
     // it takes an operand that is not there, or that was there before the innermost mark opened
     TakesBelow,
@@ -58,9 +115,69 @@ pub enum Reason {
     TooLong,
 }
 
+pub(crate) fn ensure(holds: bool, reason: Reason) -> Result<(), Reason>
+    ensures { result_err result ≡ unless holds reason }
+{
+    if holds { Ok(()) } else { Err(reason) }
+}
+
+impl fmt::Display for Reason {
+    fn fmt<W: fmt::Write>(&self, f: &mut fmt::Formatter<W>) -> fmt::Result {
+        f.write_str(match self {
+            Reason::TakesBelow =>
+                "it takes an operand that is not there, or that lies below the innermost open mark",
+            Reason::NoLoop => "no loop is open",
+            Reason::WrongPartner => "the innermost open mark is not one that it closes",
+            Reason::ClosesHigher => "a recursive loop closes higher than it opened",
+            Reason::OpenCapture => "a capture is open",
+            Reason::TooHigh => "it leaves more than 64 operands",
+            Reason::TooManyMarks => "it leaves more than 16 open marks",
+            Reason::PathsDiffer =>
+                "it goes on where another path brings other operands or open marks",
+            Reason::NotEmptyAtEnd => "the code ends after it with an operand or an open mark left",
+            Reason::Outside => "it goes on outside its code",
+            Reason::TooLong => "the code has more than 1024 instructions",
+        })
+    }
+}
+
+impl Error for Reason {}
+
 // An instruction whose standing is broken, by its place in the code.
-#[derive(Clone, Copy)]
+#[derive(Clone, Copy, PartialEq, Eq, Debug)]
 pub struct Broken {
     pub place: u32,
     pub reason: Reason,
+}
+
+impl fmt::Display for Broken {
+    fn fmt<W: fmt::Write>(&self, f: &mut fmt::Formatter<W>) -> fmt::Result {
+        write!(
+            f,
+            "the instruction at place {}: {}",
+            self.place, self.reason
+        )
+    }
+}
+
+impl Error for Broken {}
+
+#[cfg(test)]
+mod tests {
+    use super::*;
+    use std::test::Fail;
+
+    #[test]
+    fn says_what_is_broken(rt: HostRuntime) -> Result<(), Fail> {
+        let broken = Broken {
+            place: 7,
+            reason: Reason::NoLoop,
+        };
+        let words = format!(in rt.alloc(); "{broken}")?;
+        assert_eq!(rt;
+            words.as_str(),
+            "the instruction at place 7: no loop is open"
+        );
+        Ok(())
+    }
 }

@@ -1,0 +1,60 @@
+// The instructions of a code, each with the operands and the open marks that paths bring to it.
+use crate::instructions::Listed;
+use bundle::view::Code;
+use instruction::instructions::Instruction;
+use opening::check_code;
+use standing::MAX_MARKS;
+use standing::table::Table;
+use std::fmt;
+
+#[derive(Clone, Copy)]
+pub(super) struct ListedCode<'b>(pub(super) Code<'b>);
+
+impl fmt::Display for ListedCode<'_> {
+    fn fmt<W: fmt::Write>(&self, f: &mut fmt::Formatter<W>) -> fmt::Result {
+        let code = self.0;
+        let mut table = Table::new();
+        let _ = check_code(code, &mut table);
+        for place in 0..code.len() {
+            match table.entry(place) {
+                Some(entry) => write!(f, "{place:>8} {:>3}  ", entry.height)?,
+                None => write!(f, "{place:>8}   -  ")?,
+            }
+            if let Some(instruction) = code.get(place) {
+                write!(f, "{}", Listed(instruction))?;
+            }
+            if let Some(line) = code.get_line(place) {
+                write!(f, "   line {line}")?;
+            }
+            show_marks(f, code, place, &table)?;
+            writeln!(f)?;
+        }
+        Ok(())
+    }
+}
+
+// The open marks at a place, the innermost first.
+fn show_marks<W: fmt::Write>(
+    f: &mut fmt::Formatter<W>,
+    code: Code<'_>,
+    place: u32,
+    table: &Table,
+) -> fmt::Result {
+    let mut place = place;
+    for _ in 0..MAX_MARKS {
+        let Some(opened) = table.entry(place).and_then(|entry| entry.inner) else {
+            break;
+        };
+        write!(f, "   in {} {opened}", mark_name(code.get(opened)))?;
+        place = opened;
+    }
+    Ok(())
+}
+
+fn mark_name(instruction: Option<Instruction<'_>>) -> &'static str {
+    match instruction {
+        Some(Instruction::PushLoop(_)) => "loop",
+        Some(Instruction::BeginCapture(_)) => "capture",
+        _ => "with",
+    }
+}
