@@ -17,7 +17,7 @@ use Rattle.rules.specs.Rules.{inside}
 use Rattle.rules.specs.declared.RecordRule.TheVariants.{CodeInstructions, InstructionConstant, InstructionKind, ConstantKind}
 use Rattle.rules.specs.declared.Rule.TheVariants.{Record}
 use Rattle.causes.specs.Causes.{cause, reference_rules, field_rules}
-use Rattle.bundle.specs.Decoded.{instruction, step, code, fetched, record_at, line_in, line_of}
+use Rattle.bundle.specs.Decoded.{instruction, step, code, fetched, record_at, line_of}
 use Rattle.bundle.proofs.Kept.{Clean, clean, kept_at, keeps_at}
 
 some_value : {A : Type 0} (x : Option A) (d : A) → is_some x ≡ true → x ≡ Some (unwrap_or x d)
@@ -111,6 +111,11 @@ fetched_is_step b c k e l =
     cond-false (ltb k (layout.code b c).instructions.count) _ _ (le-ltb k _ m)
     ∙ sym (ap (option_map (λ s. s.instruction)) (nth_past_listed (steps_of b c) (layout.code b c).instructions.count k m)))
     (cases_lt k (layout.code b c).instructions.count)
+
+-- the line that a record holds, where it is known
+abbrev pub line_in : Option InstructionRecord → Option ℕ
+line_in None = None
+line_in (Some r) = cond (eqb r.line 0) None (Some r.line)
 
 -- the line of a step is that of its record
 pub line_is : (b : List ℕ) (c k : ℕ) → line_in (record_at b c k) ≡ line_of (slice_get (code b c).steps k)

@@ -1,36 +1,14 @@
 -- What is read through records stands in the program, and what records of a bundle without causes 1 to 4 name is there.
-use Rattle.std.proofs.Common.{◌≡◌, cond, ltb, ⊎_elim, ℕ, ◌+◌, ◌<◌, ◌≤◌, List, Some, None, Option, sym, ap, ◌∙◌, subst, arith}
+use Rattle.std.proofs.Common.{◌≡◌, cond, ltb, ⊎_elim, ℕ, ◌+◌, ◌<◌, ◌≤◌, List, Some, None, Option, sym, ap, ◌∙◌, arith}
 use Rattle.std.specs.List.{slice_get}
-use Rattle.std.proofs.lemmas.Bool.{cases_lt, leb-true, lt-ltb, le-ltb, cond-true, cond-false}
+use Rattle.std.proofs.lemmas.Bool.{cases_lt, lt-ltb, le-ltb, cond-true, cond-false}
 use Rattle.layout.specs.Bounded.{listed}
 use Rattle.layout.specs.Layout as layout
-use Rattle.layout.specs.declared.section.Section.TheVariants.{Templates, Blocks, Codes}
+use Rattle.layout.specs.declared.section.Section.TheVariants.{Templates}
 use Rattle.layout.specs.declared.records.TemplateRecord.{TemplateRecord}
-use Rattle.layout.specs.declared.records.BlockRecord.{BlockRecord}
 use Rattle.layout.proofs.Listed.{nth_listed, nth_past_listed}
 use Rattle.instruction.specs.Program.{Template}
-use Rattle.rules.specs.declared.Rule.TheVariants.{Record}
-use Rattle.rules.specs.declared.RecordRule.TheVariants.{TemplateMain, TemplateBlocks, BlockCode}
-use Rattle.causes.specs.Causes.{cause, reference_rules}
 use Rattle.bundle.specs.Decoded.{code, block, template, program}
-use Rattle.bundle.proofs.Kept.{clean, kept_at, keeps_at}
-
-module _ (b : List ℕ) (h : cause b ≡ 0) where
-  module _ (t : ℕ) (r : TemplateRecord) (is : r ≡ layout.template b t) (l : t < layout.records b Templates) where
-    pub main_inside : r.main < layout.records b Codes
-    main_inside =
-        subst (λ (x : TemplateRecord). x.main < layout.records b Codes) (sym is)
-        (omega (arith, leb-true _ _ (keeps_at b (Record TemplateMain) t (kept_at b reference_rules 1 (Record TemplateMain) (clean b h).references (omega arith)) l)))
-
-    pub blocks_inside : r.blocks.first + r.blocks.count ≤ layout.records b Blocks
-    blocks_inside =
-        subst (λ (x : TemplateRecord). x.blocks.first + x.blocks.count ≤ layout.records b Blocks) (sym is)
-        (leb-true _ _ (keeps_at b (Record TemplateBlocks) t (kept_at b reference_rules 2 (Record TemplateBlocks) (clean b h).references (omega arith)) l))
-
-  pub block_code_inside : (i : ℕ) (r : BlockRecord) → r ≡ layout.block b i → i < layout.records b Blocks → r.code < layout.records b Codes
-  block_code_inside i r is l =
-      subst (λ (x : BlockRecord). x.code < layout.records b Codes) (sym is)
-      (omega (arith, leb-true _ _ (keeps_at b (Record BlockCode) i (kept_at b reference_rules 4 (Record BlockCode) (clean b h).references (omega arith)) l)))
 
 module _ (b : List ℕ) where
   pub template_read : (t : ℕ) (r : TemplateRecord) → r ≡ layout.template b t → t < layout.records b Templates

@@ -51,8 +51,3 @@ fetched b c k =
 abbrev pub line_of : Option Step → Option ℕ
 line_of None = None
 line_of (Some s) = cond (s.line == 0) None (Some s.line)
-
--- the same of the record that holds it
-abbrev pub line_in : Option InstructionRecord → Option ℕ
-line_in None = None
-line_in (Some r) = cond (r.line == 0) None (Some r.line)

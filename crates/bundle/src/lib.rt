@@ -8,7 +8,7 @@ ghost use Rattle.layout.specs.Layout.{records, header as header_of, code as code
 ghost use Rattle.instruction.specs.Kinds.{constant_of};
 ghost use Rattle.instruction.specs.Seen.{instruction_seen, constant_seen};
 ghost use Rattle.causes.specs.Causes.{cause as format_cause, defect};
-ghost use Rattle.bundle.specs.Decoded.{program, block as decoded_block, code as decoded_code, fetched, record_at, line_in, line_of};
+ghost use Rattle.bundle.specs.Decoded.{program, block as decoded_block, code as decoded_code, fetched, record_at, line_of};
 ghost use Rattle.bundle.specs.View.{code_view, block_view, template_view, bytes as bytes_of, told, refusal};
 ghost use Rattle.bundle.specs.Sections.{SectionsFillTheBundle};
 ghost use Rattle.bundle.specs.Owners.{RecordsHaveOneOwner};
@@ -16,8 +16,8 @@ ghost use Rattle.bundle.specs.Agreement.{AgreeingBundlesHoldOneProgram};
 
 pub mod view;
 
+use causes::check;
 use causes::defect::Defect;
-use causes::first_defect;
 use instruction::instructions::{Constant, Instruction};
 use instruction::{decode, read_constant};
 use layout::Layout;
@@ -36,15 +36,12 @@ pub fn examine<'b>(bytes: &'b [u8]) -> Result<Examined<'b>, Defect>
     ensures owners { RecordsHaveOneOwner bytes.now }
     ensures content { AgreeingBundlesHoldOneProgram bytes.now }
 {
-    match first_defect(bytes) {
-        Some(found) => Err(found),
-        None => Ok(Examined {
-            layout: Layout { bytes },
-        }),
-    }
+    check(bytes)?;
+    Ok(Examined {
+        layout: Layout { bytes },
+    })
 }
 
-// Each reader tests its number by hand: made by a closure under `then`, the value's facts were not proved.
 impl<'b> Examined<'b> {
     pub fn bytes(self) -> &'b [u8]
         ensures { result.now ≡ self.entry.layout.bytes.now }
@@ -58,39 +55,32 @@ impl<'b> Examined<'b> {
         self.layout.header()
     }
 
-    #[tactic(auto, using(crate::proofs::Reading::main_inside, crate::proofs::Reading::blocks_inside, crate::proofs::Reading::template_read, crate::proofs::Reading::template_past))]
+    #[tactic(auto, using(crate::proofs::Reading::template_read, crate::proofs::Reading::template_past))]
     pub fn template(self, number: u32) -> Option<Template<'b>>
         ensures { option_map template_view result ≡ slice_get (program self.entry.layout.bytes.now) number }
     {
-        if number < self.layout.count(Section::Templates) {
-            Some(Template {
-                layout: self.layout,
-                raw: self.layout.record::<TemplateRecord>(number),
-            })
-        } else {
-            None
-        }
+        let raw = self.layout.get::<TemplateRecord>(number)?;
+        Some(Template {
+            layout: self.layout,
+            raw,
+        })
     }
 
-    #[tactic(auto, using(crate::proofs::Reading::block_code_inside))]
     pub fn block(self, number: u32) -> Option<Block<'b>>
         ensures { option_map block_view result ≡ (if nat_lt number (records self.entry.layout.bytes.now Section.Blocks) then Some (decoded_block self.entry.layout.bytes.now number) else None) }
     {
-        if number < self.layout.count(Section::Blocks) {
-            Some(Block {
-                layout: self.layout,
-                raw: self.layout.record::<BlockRecord>(number),
-            })
-        } else {
-            None
-        }
+        let raw = self.layout.get::<BlockRecord>(number)?;
+        Some(Block {
+            layout: self.layout,
+            raw,
+        })
     }
 
     pub fn code(self, number: u32) -> Option<Code<'b>>
         ensures value { option_map code_view result ≡ (if nat_lt number (records self.entry.layout.bytes.now Section.Codes) then Some (decoded_code self.entry.layout.bytes.now number) else None) }
         ensures place { IfSome result (λ c. (c.layout.bytes.now ≡ self.entry.layout.bytes.now) × (c.number ≡ number)) }
     {
-        if number < self.layout.count(Section::Codes) {
+        if self.layout.has(Section::Codes, number) {
             Some(Code {
                 layout: self.layout,
                 number,
@@ -103,7 +93,7 @@ impl<'b> Examined<'b> {
     pub fn constant(self, number: u32) -> Option<Constant<'b>>
         ensures { option_map constant_seen result ≡ (if nat_lt number (records self.entry.layout.bytes.now Section.Constants) then constant_of self.entry.layout.bytes.now number else None) }
     {
-        if number < self.layout.count(Section::Constants) {
+        if self.layout.has(Section::Constants, number) {
             read_constant(self.layout, number)
         } else {
             None
@@ -112,7 +102,7 @@ impl<'b> Examined<'b> {
 }
 
 impl<'b> Template<'b> {
-    // One line, as for a block: a trait for the two would say no more.
+    // As of a block: a trait for the two would say no more.
     pub fn name(self) -> &'b [u8]
         ensures { result.now ≡ (template_view self.entry).name }
     {
@@ -137,19 +127,15 @@ impl<'b> Template<'b> {
         self.raw.blocks.count
     }
 
-    #[tactic(auto, using(crate::proofs::Reading::block_code_inside))]
+    // The check proves this by itself; `block` says that it is the block of the program.
     fn block_at(self, place: u32) -> Option<Block<'b>>
         ensures { option_map block_view result ≡ (if nat_lt place self.entry.raw.blocks.count then Some (decoded_block self.entry.layout.bytes.now (self.entry.raw.blocks.first + place)) else None) }
     {
-        let blocks = self.raw.blocks;
-        if place < blocks.count {
-            Some(Block {
-                layout: self.layout,
-                raw: self.layout.record_from(blocks.first, place),
-            })
-        } else {
-            None
-        }
+        let raw = self.layout.get_in::<BlockRecord>(self.raw.blocks, place)?;
+        Some(Block {
+            layout: self.layout,
+            raw,
+        })
     }
 
     pub fn block(self, place: u32) -> Option<Block<'b>>
@@ -187,12 +173,7 @@ impl<'b> Code<'b> {
     fn record(self, place: u32) -> Option<InstructionRecord>
         ensures { result ≡ record_at self.entry.layout.bytes.now self.entry.number place }
     {
-        let instructions = self.raw().instructions;
-        if place < instructions.count {
-            Some(self.layout.record_from(instructions.first, place))
-        } else {
-            None
-        }
+        self.layout.get_in(self.raw().instructions, place)
     }
 
     #[tactic(auto, using(layout::proofs::Listed::length_listed))]
@@ -209,6 +190,7 @@ impl<'b> Code<'b> {
         self.raw().flag == 1
     }
 
+    // The check proves this by itself; `get` adds that it is the step of the program.
     fn fetch(self, place: u32) -> Option<Instruction<'b>>
         ensures { option_map instruction_seen result ≡ fetched self.entry.layout.bytes.now self.entry.number place }
     {
@@ -216,19 +198,11 @@ impl<'b> Code<'b> {
     }
 
     // The instruction at this place, or none past the end.
-    #[tactic(auto, using(crate::proofs::Fetching::fetched_is_step))]
     pub fn get(self, place: u32) -> Option<Instruction<'b>>
         ensures value { option_map instruction_seen result ≡ fetched self.entry.layout.bytes.now self.entry.number place }
-        ensures step { option_map instruction_seen result ≡ option_map (λ s. s.instruction) (slice_get (code_view self.entry).steps place) }
+        ensures step { self.entry.number < records self.entry.layout.bytes.now Section.Codes → option_map instruction_seen result ≡ option_map (λ s. s.instruction) (slice_get (code_view self.entry).steps place) }
     {
         self.fetch(place)
-    }
-
-    fn line(self, place: u32) -> Option<u16>
-        ensures { result ≡ line_in (record_at self.entry.layout.bytes.now self.entry.number place) }
-    {
-        let line = self.record(place)?.line;
-        if line == 0 { None } else { Some(line) }
     }
 
     // The line in the source that the instruction at this place comes from, or none where that is not known.
@@ -236,6 +210,7 @@ impl<'b> Code<'b> {
     pub fn get_line(self, place: u32) -> Option<u16>
         ensures { result ≡ line_of (slice_get (code_view self.entry).steps place) }
     {
-        self.line(place)
+        let line = self.record(place)?.line;
+        if line == 0 { None } else { Some(line) }
     }
 }

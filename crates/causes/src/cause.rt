@@ -5,27 +5,21 @@ ghost use Rattle.causes.specs.Causes.{cause_number};
 #[derive(Clone, Copy, PartialEq, Eq, Debug)]
 pub enum Cause {
     // the size or the header is wrong
-    Header,
+    Header = 1,
     // something named lies outside, or a record is named more or less than once
-    Reference,
+    Reference = 2,
     // a kind, a field, a number of instructions or a flag is not allowed, or LoadBlocks stands outside main code
-    Field,
+    Field = 3,
     // a name stands twice, or there are too many of them
-    Name,
+    Name = 4,
     // a code does not stand
-    Standing,
+    Standing = 5,
 }
 
 impl Cause {
     pub fn number(self) -> u8
         ensures { result ≡ cause_number self }
     {
-        match self {
-            Cause::Header => 1,
-            Cause::Reference => 2,
-            Cause::Field => 3,
-            Cause::Name => 4,
-            Cause::Standing => 5,
-        }
+        self as u8
     }
 }

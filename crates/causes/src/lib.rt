@@ -5,7 +5,7 @@
 ghost use Rattle.std.specs.Prelude.{◌≡◌, map};
 ghost use Rattle.std.specs.Result.{result_err};
 ghost use Rattle.rules.specs.declared.Rule.TheVariants.{Record};
-ghost use Rattle.causes.specs.Causes.{first_defect as defect_in, defect, cause as format_cause, cause_of, reference_rules, field_rules, name_rules};
+ghost use Rattle.causes.specs.Causes.{first_defect as defect_in, defect, cause as format_cause, cause_of, reference_rules, name_rules};
 
 pub mod cause;
 pub mod defect;
@@ -76,8 +76,7 @@ fn check_names(layout: Layout<'_>) -> Result<(), Defect>
 }
 
 // The rules in the order of their causes.
-#[tactic(auto, unfolding(crate::specs::Causes::defect))]
-fn check(layout: Layout<'_>) -> Result<(), Defect>
+fn check_all(layout: Layout<'_>) -> Result<(), Defect>
     ensures { result_err result ≡ defect layout.entry.bytes.now }
 {
     let headed = Headed::new(layout)?;
@@ -86,12 +85,21 @@ fn check(layout: Layout<'_>) -> Result<(), Defect>
     check_names(layout)
 }
 
-// The first rule that is broken, with the first record that breaks it; none where the bytes have no cause 1 to 4.
-// It is an `Option`, as of a search: callers ask for the first defect, or none.
+// Whether the bytes have none of the causes 1 to 4; else the first rule that is broken, with the first record that
+// breaks it.
 #[tactic(auto, using(crate::proofs::Search::lowest))]
+pub fn check(bytes: &[u8]) -> Result<(), Defect>
+    ensures value { result_err result ≡ defect bytes.now }
+    ensures lowest { cause_of (result_err result) ≡ format_cause bytes.now }
+{
+    check_all(Layout { bytes })
+}
+
+// An `Option`, since it promises one; a caller that wants a `Result` has `check`.
+// The same as of a search: the first defect, or none.
 pub fn first_defect(bytes: &[u8]) -> Option<Defect>
     ensures value { result ≡ defect bytes.now }
     ensures lowest { cause_of result ≡ format_cause bytes.now }
 {
-    check(Layout { bytes }).err()
+    check(bytes).err()
 }

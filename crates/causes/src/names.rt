@@ -11,9 +11,7 @@ use arrayvec::ArrayVec;
 use layout::Layout;
 use layout::records::BlockRecord;
 use layout::section::Section;
-use rules::Rule;
-
-pub const MAX_BLOCK_NAMES: usize = 32;
+use rules::{MAX_BLOCK_NAMES, Rule};
 
 fn name_of_block<'b>(layout: Layout<'b>, number: u32) -> &'b [u8]
     ensures { result.now ≡ block_name layout.entry.bytes.now number }

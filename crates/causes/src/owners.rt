@@ -1,11 +1,11 @@
 // Each block, code and instruction is named exactly once: counted in one pass over the records that name,
 // and one over those that are named.
-ghost use Rattle.std.specs.Prelude.{◌≡◌, ◌+◌, ◌≤◌, [], ◌∷◌, length};
+ghost use Rattle.std.specs.Prelude.{◌≡◌, ◌+◌, [], ◌∷◌};
 ghost use Rattle.std.specs.Result.{result_err};
-ghost use Rattle.rules.specs.Rules.{namers as namers_of, run_start, run_end, owned_in, code_named_by};
+ghost use Rattle.rules.specs.Rules.{namers as namers_of, run_start, run_end, code_named_by};
 ghost use Rattle.rules.specs.declared.Owned.TheVariants as the;
 ghost use Rattle.rules.specs.declared.Rule.TheVariants.{Owner};
-ghost use Rattle.causes.specs.Causes.{first_defect as defect_in};
+ghost use Rattle.causes.specs.Causes.{breach, first_defect as defect_in};
 ghost use Rattle.causes.specs.Tally.{CountsStarts, CountsEnds};
 
 use crate::defect::Defect;
@@ -57,9 +57,9 @@ impl Headed<'_> {
         tally
     }
 
-    // Looks for the first record that is named more or less than once.
-    fn check_owned(self, owned: Owned) -> Result<(), Defect>
-        ensures { result_err result ≡ defect_in self.entry.layout.bytes.now (Owner owned ∷ []) }
+    // The first record that is named more or less than once.
+    fn first_not_owned_once(self, owned: Owned) -> Option<u32>
+        ensures { result ≡ breach self.entry.layout.bytes.now (Owner owned) }
     {
         let tally = self.tally(owned);
         let mut owners = 0;
@@ -68,13 +68,22 @@ impl Headed<'_> {
             let here = tally[number as usize];
             owners = owners + here.starts - here.ends;
             if owners != 1 {
-                return Err(Defect {
-                    rule: Rule::Owner(owned),
-                    record: number,
-                });
+                return Some(number);
             }
         }
-        Ok(())
+        None
+    }
+
+    fn check_owned(self, owned: Owned) -> Result<(), Defect>
+        ensures { result_err result ≡ defect_in self.entry.layout.bytes.now (Owner owned ∷ []) }
+    {
+        match self.first_not_owned_once(owned) {
+            Some(record) => Err(Defect {
+                rule: Rule::Owner(owned),
+                record,
+            }),
+            None => Ok(()),
+        }
     }
 }
 

@@ -1,5 +1,5 @@
 // Bytes as printable text.
-ghost use Rattle.std.specs.Prelude.{◌≡◌, ◌<◌, IfOk, Some, string_bytes};
+ghost use Rattle.std.specs.Prelude.{◌≡◌, IfOk, Some, string_bytes};
 ghost use Rattle.console.specs.Escape.{escaped_byte, escaped};
 
 use std::alloc::{AllocError, Global};

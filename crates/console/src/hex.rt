@@ -22,10 +22,9 @@ fn digit_value(digit: u8) -> Option<u8>
 fn byte_of(high: u8, low: u8) -> Option<u8>
     ensures { result ≡ byte_of high low }
 {
-    match (digit_value(high), digit_value(low)) {
-        (Some(high), Some(low)) => Some(16 * high + low),
-        _ => None,
-    }
+    let high = digit_value(high)?;
+    let low = digit_value(low)?;
+    Some(16 * high + low)
 }
 
 // The bytes that a line writes, or none where it has an odd number of digits or anything else than digits.

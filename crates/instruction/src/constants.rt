@@ -23,6 +23,7 @@ pub enum ConstantKind {
 #[derive(Clone, Copy, PartialEq, Eq, Debug)]
 pub struct UnknownConstant;
 
+// The numbers stand here alone, as those of `Kind` do.
 impl TryFrom<u32> for ConstantKind {
     type Error = UnknownConstant;
 

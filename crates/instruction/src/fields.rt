@@ -57,6 +57,7 @@ impl Fields {
     {
         match self {
             Fields::Cached => small < MAX_LOCALS || small == NO_LOCAL,
+            // The bounds of the format, as the definition has them: any byte is a `LoopFlags` or a `CaptureMode`.
             Fields::LoopFlags => small <= 3,
             Fields::CaptureMode => small <= 1,
             Fields::LeftOut => true,

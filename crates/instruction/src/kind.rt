@@ -60,6 +60,7 @@ pub enum Kind {
 #[derive(Clone, Copy, PartialEq, Eq, Debug)]
 pub struct LeftOut;
 
+// The numbers stand here and not at the enum: there they would stand in both.
 impl TryFrom<u8> for Kind {
     type Error = LeftOut;
 

@@ -2,7 +2,7 @@
 // Every function here is total: it reads any byte string, and a byte past the end as 0.
 #![tactic(auto)]
 
-ghost use Rattle.std.specs.Prelude.{◌≡◌, ◌+◌, ◌*◌, ◌≤◌};
+ghost use Rattle.std.specs.Prelude.{◌≡◌, ◌+◌, ◌*◌, ◌<◌, ◌≤◌, IfSome, IfNone, if◌then◌else◌, Some, None, nat_lt};
 ghost use Rattle.layout.specs.Layout.{records as records_of, start, extent as extent_of, header as header_of, size as size_of, place as place_of, at, text as text_of};
 
 pub mod below;
@@ -41,14 +41,7 @@ impl Section {
     fn place(self) -> usize
         ensures { (result ≡ place_of self) × (result ≤ 5) }
     {
-        match self {
-            Section::Templates => 0,
-            Section::Blocks => 1,
-            Section::Codes => 2,
-            Section::Instructions => 3,
-            Section::Constants => 4,
-            Section::Text => 5,
-        }
+        self as usize
     }
 }
 
@@ -116,6 +109,36 @@ impl<'b> Layout<'b> {
             bytes: self.bytes,
             at: self.offset(section) as usize + section.record_size() as usize * number,
         })
+    }
+
+    // Whether the section has a record with this number.
+    pub fn has(self, section: Section, number: u32) -> bool
+        ensures { result ≡ nat_lt number (records_of self.entry.bytes.now section) }
+    {
+        number < self.count(section)
+    }
+
+    // The record with this number, or none where the section has none.
+    pub fn get<R: Record>(self, number: u32) -> Option<R>
+        ensures found { IfSome result (λ r. (number < records_of self.entry.bytes.now R.section) × (r ≡ R.fields_at self.entry.bytes.now (at self.entry.bytes.now R.section number))) }
+        ensures past { IfNone result (records_of self.entry.bytes.now R.section ≤ number) }
+    {
+        if self.has(R::section(), number) {
+            Some(self.record(number))
+        } else {
+            None
+        }
+    }
+
+    // The record at this place of a run of records, or none past its end.
+    pub fn get_in<R: Record>(self, run: Span, place: u32) -> Option<R>
+        ensures { result ≡ (if nat_lt place run.count then Some (R.fields_at self.entry.bytes.now (at self.entry.bytes.now R.section (run.first + place))) else None) }
+    {
+        if place < run.count {
+            Some(self.record_from(run.first, place))
+        } else {
+            None
+        }
     }
 
     // The part of the text section that a record names, as far as the bytes reach.

@@ -10,7 +10,8 @@ pub struct Place<'b> {
     ghost low: { at < 2 ^ 40 },
 }
 
-// The three widths of the format. (With a width for parameter the sums over the bytes would stay, one for each.)
+// The three widths of the format. (With a width for parameter the result would be bytes, and each type's own conversion
+// would stay at its callers.)
 impl Place<'_> {
     // The number of one byte that stands so many bytes after the place.
     pub fn u8(self, field: u8) -> u8
@@ -23,16 +24,19 @@ impl Place<'_> {
         ensures { result ≡ half self.entry.bytes.now (self.entry.at + field) }
     {
         let at = self.at + field as usize;
-        byte_at(self.bytes, at) as u16 + 256 * byte_at(self.bytes, at + 1) as u16
+        u16::from_le_bytes([byte_at(self.bytes, at), byte_at(self.bytes, at + 1)])
     }
 
     pub fn u32(self, field: u8) -> u32
         ensures { result ≡ word self.entry.bytes.now (self.entry.at + field) }
     {
         let at = self.at + field as usize;
-        let low = byte_at(self.bytes, at) as u32 + 256 * byte_at(self.bytes, at + 1) as u32;
-        low + 65536 * byte_at(self.bytes, at + 2) as u32
-            + 16777216 * byte_at(self.bytes, at + 3) as u32
+        u32::from_le_bytes([
+            byte_at(self.bytes, at),
+            byte_at(self.bytes, at + 1),
+            byte_at(self.bytes, at + 2),
+            byte_at(self.bytes, at + 3),
+        ])
     }
 }
 

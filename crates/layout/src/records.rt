@@ -23,6 +23,7 @@ pub struct BlockRecord {
 #[derive(Clone, Copy, PartialEq, Eq, Debug)]
 pub struct CodeRecord {
     pub instructions: Span,
+    // As it stands in the bytes: the reader of codes answers a `bool`.
     pub flag: u32,
 }
 
@@ -33,6 +34,7 @@ pub struct InstructionRecord {
     pub argc: u16,
     pub a: u32,
     pub b: u32,
+    // As it stands in the bytes, 0 where it is missing: the reader of lines answers an `Option`.
     pub line: u16,
     pub zero: u16,
 }

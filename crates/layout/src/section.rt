@@ -11,6 +11,7 @@ pub enum Section {
     Text,
 }
 
+// By hand, since it pads.
 impl fmt::Display for Section {
     fn fmt<W: fmt::Write>(&self, f: &mut fmt::Formatter<W>) -> fmt::Result {
         f.pad(match self {

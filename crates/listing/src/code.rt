@@ -41,6 +41,7 @@ fn show_marks<W: fmt::Write>(
     table: &Table,
 ) -> fmt::Result {
     let mut place = place;
+    // No iterator: each mark is read from the one before, by the table.
     for _ in 0..MAX_MARKS {
         let Some(opened) = table.entry(place).and_then(|entry| entry.inner) else {
             break;

@@ -1,6 +1,6 @@
 // An instruction in readable form: its name and its operands.
 use console::escape::Escaped;
-use instruction::instructions::{CaptureMode, Constant, Instruction};
+use instruction::instructions::{Constant, Instruction};
 use instruction::local_id::LocalId;
 use instruction::loop_flags::LoopFlags;
 use std::fmt;
@@ -15,6 +15,7 @@ impl fmt::Display for Listed<'_> {
     }
 }
 
+// A text for each case: `Kind` cannot print them without the same `match` from instructions to kinds.
 fn name(instruction: Instruction<'_>) -> &'static str {
     match instruction {
         Instruction::EmitRaw(_) => "EmitRaw",
@@ -91,8 +92,7 @@ fn show_operands<W: fmt::Write>(
         | Instruction::JumpIfFalse(target)
         | Instruction::JumpIfFalseOrPop(target)
         | Instruction::JumpIfTrueOrPop(target) => write!(f, " -> {target}"),
-        Instruction::BeginCapture(CaptureMode::Capture) => f.write_str(" Capture"),
-        Instruction::BeginCapture(CaptureMode::Discard) => f.write_str(" Discard"),
+        Instruction::BeginCapture(mode) => write!(f, " {mode:?}"),
         _ => Ok(()),
     }
 }

@@ -42,6 +42,7 @@ pub enum Layer {
 
 impl Fault {
     // What a user sees of a fault.
+    // An enum is no plainer: this number stands for the enum outside of the program.
     pub fn number(self) -> u8
         ensures { result ≡ number_of self }
     {

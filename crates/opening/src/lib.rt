@@ -1,8 +1,11 @@
 // Whether a bundle opens: it has none of the causes 1 to 4, and each of its codes stands.
 #![tactic(auto)]
 
-ghost use Rattle.std.specs.Prelude.{◌≡◌, ◌+◌, length, take, MatchResult};
+ghost use Rattle.std.specs.Prelude.{◌≡◌, ◌+◌, ◌<◌, ◌≤◌, length, take, MatchResult};
+ghost use Rattle.layout.specs.Layout.{records};
+ghost use Rattle.layout.specs.declared.section.Section.TheVariants.{Codes};
 ghost use Rattle.standing.specs.Search.{Judged};
+ghost use Rattle.bundle.specs.View.{code_view};
 ghost use Rattle.opening.specs.Opening.{code_shapes, AllStand, IsBrokenCode, Lowest, OneLowestCause, UnreachedInstructionsDoNotMatter};
 ghost use Rattle.opening.specs.Refusals.{number, Shown};
 
@@ -16,12 +19,13 @@ use opened::Bundle;
 use refusal::{BrokenCode, Refusal};
 use shapes::shape_of;
 use standing::MAX_INSTRUCTIONS;
-use standing::shape::{Broken, Shape};
+use standing::shape::{Broken, Reason, Shape};
 use standing::table::Table;
 
 // What the instructions of a code do.
 fn shapes_of(code: Code<'_>) -> ArrayVec<Shape, MAX_INSTRUCTIONS>
-    ensures { result.items ≡ code_shapes code.entry.layout.bytes.now code.entry.number }
+    requires { length (code_view code).steps ≤ 1024 }
+    ensures { code.entry.number < records code.entry.layout.bytes.now Codes → result.items ≡ code_shapes code.entry.layout.bytes.now code.entry.number }
 {
     let mut shapes = ArrayVec::new();
     for place in 0..code.len() {
@@ -33,9 +37,17 @@ fn shapes_of(code: Code<'_>) -> ArrayVec<Shape, MAX_INSTRUCTIONS>
 }
 
 // Whether a code stands. If it does, the table has what the paths bring to each of its places.
+#[tactic(auto, using(crate::proofs::Reading::shapes_long))]
 pub fn check_code(code: Code<'_>, table: &mut Table) -> Result<(), Broken>
-    ensures { Judged (code_shapes code.entry.layout.bytes.now code.entry.number) (take (length (code_shapes code.entry.layout.bytes.now code.entry.number) + 1) table.new.entries) result }
+    ensures { code.entry.number < records code.entry.layout.bytes.now Codes → Judged (code_shapes code.entry.layout.bytes.now code.entry.number) (take (length (code_shapes code.entry.layout.bytes.now code.entry.number) + 1) table.new.entries) result }
 {
+    // A code of a bundle is never too long, but its field `number` is public and may be the number of none.
+    if code.len() as usize > MAX_INSTRUCTIONS {
+        return Err(Broken {
+            place: 0,
+            reason: Reason::TooLong,
+        });
+    }
     table.check(shapes_of(code).as_slice())
 }
 
@@ -46,6 +58,7 @@ fn check_codes(bundle: Examined<'_>) -> Result<(), BrokenCode>
     let mut table = Table::new();
     for number in 0..bundle.header().codes.count {
         if let Some(code) = bundle.code(number) {
+            // Tried as `map_err(..)?`: the proof of the loop did not close.
             if let Err(broken) = check_code(code, &mut table) {
                 return Err(BrokenCode {
                     code: number,

@@ -13,6 +13,7 @@ use bundle::view::Examined;
 #[derive(Clone, Copy)]
 pub struct Bundle<'b> {
     parts: Examined<'b>,
+    // `parts` has this too; it stays as what a bundle is known by.
     ghost format: { cause parts.layout.bytes.now ≡ 0 },
     ghost standing: { ∥ AllStand parts.layout.bytes.now ∥₁ },
 }
@@ -35,6 +36,7 @@ impl<'b> Bundle<'b> {
         Ok(Bundle { parts })
     }
 
+    // The check proves this by itself; `empty` rests on it.
     fn read_empty() -> Result<Bundle<'b>, Refusal>
         ensures shown { IfErr result (λ x. Shows empty_bundle x) }
         ensures opened { IfOk result (λ x. x.parts.layout.bytes.now ≡ empty_bundle) }

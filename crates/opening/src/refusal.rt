@@ -7,19 +7,14 @@ ghost use Rattle.opening.specs.Refusals.{cause_number};
 use causes::cause::Cause;
 use causes::defect::Defect;
 use standing::shape::Broken;
-use std::fmt;
+use thiserror::Error;
 
 // A code that does not stand, by its number, and the instruction that shows it.
-#[derive(Clone, Copy, PartialEq, Eq, Debug)]
+#[derive(Clone, Copy, PartialEq, Eq, Debug, Error)]
+#[error("code {code}: {broken}")]
 pub struct BrokenCode {
     pub code: u32,
     pub broken: Broken,
-}
-
-impl fmt::Display for BrokenCode {
-    fn fmt<W: fmt::Write>(&self, f: &mut fmt::Formatter<W>) -> fmt::Result {
-        write!(f, "code {}: {}", self.code, self.broken)
-    }
 }
 
 #[derive(Clone, Copy, PartialEq, Eq, Debug)]

@@ -103,6 +103,7 @@ fn copy_codes(operands: &[Operand], out: &mut [u32]) -> Option<()>
     requires { length operands.now ≡ length out.old }
     ensures { codes_if result out.new ≡ top_codes (length out.old) (reverse operands.now) }
 {
+    // Tried as a `zip` with `iter_mut`: the proof did not close.
     for (place, operand) in operands.iter().enumerate() {
         out[place] = operand.code()?;
     }

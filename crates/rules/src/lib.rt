@@ -8,7 +8,7 @@ mod scope;
 use layout::section::Section;
 pub use names::first_repeated_block;
 use records::{MAX_INSTRUCTIONS, MAX_SIZE, MAX_TEMPLATES, MIN_SIZE};
-pub use records::{first_breach, first_jump_outside, first_load};
+pub use records::{MAX_BLOCK_NAMES, first_breach, first_jump_outside, first_load};
 use thiserror::Error;
 
 // What each record of one kind has to keep, on its own or against those before it, with what is wrong where it does not.
@@ -79,8 +79,7 @@ pub enum Rule {
     // each record is named exactly once
     #[error("it belongs to no {}, or to several", .0.owners())]
     Owner(Owned),
-    // no more than 32 different block names
-    #[error("its name is one more than 32 different block names")]
+    #[error("its name is one more than {} different block names", MAX_BLOCK_NAMES)]
     BlockNameLimit,
 }
 

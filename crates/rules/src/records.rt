@@ -1,7 +1,7 @@
 // The rules that speak of one record at a time.
 ghost use Rattle.std.specs.Prelude.{◌≡◌, ◌+◌, not, ◌&&◌, nat_le};
 ghost use Rattle.layout.specs.Bounded.{first_not as first_not_below};
-ghost use Rattle.layout.specs.Layout.{code, span};
+ghost use Rattle.layout.specs.Layout.{code};
 ghost use Rattle.rules.specs.Rules.{inside, finish as finish_of, due as due_of, jumps_inside, loads as loads_at, keeps_record, scope_record};
 
 use crate::RecordRule;
@@ -22,7 +22,10 @@ pub const MAX_SIZE: usize = 65536;
 
 pub const MAX_TEMPLATES: u32 = 64;
 
+// `standing` has this too, and knows nothing of bundles: that the two agree is proved in `opening`.
 pub const MAX_INSTRUCTIONS: u32 = 1024;
+
+pub const MAX_BLOCK_NAMES: usize = 32;
 
 fn size_allowed(size: usize) -> bool
     ensures { result ≡ (nat_le 48 size && nat_le size 65536) }
@@ -35,13 +38,6 @@ fn is_inside(layout: Layout<'_>, section: Section, run: Span) -> bool
     ensures { result ≡ inside layout.entry.bytes.now section run }
 {
     run.first as u64 + run.count as u64 <= layout.count(section) as u64
-}
-
-// Whether the section has a record with this number.
-fn exists(layout: Layout<'_>, section: Section, number: u32) -> bool
-    ensures { result ≡ inside layout.entry.bytes.now section (span number 1) }
-{
-    number < layout.count(section)
 }
 
 // Where a section ends.
@@ -65,6 +61,7 @@ fn due(layout: Layout<'_>, section: Section) -> u64
     }
 }
 
+// As of a constant below: another record, with another test of its kind.
 fn text_of_instruction_inside(layout: Layout<'_>, number: u32) -> bool
     ensures { result ≡ keeps_record layout.entry.bytes.now RecordRule.InstructionText number }
 {
@@ -80,7 +77,7 @@ fn constant_of_instruction_inside(layout: Layout<'_>, number: u32) -> bool
     ensures { result ≡ keeps_record layout.entry.bytes.now RecordRule.InstructionConstant number }
 {
     let raw = layout.record::<InstructionRecord>(number);
-    !fields_of_kind(raw.kind).takes_constant() || exists(layout, Section::Constants, raw.a)
+    !fields_of_kind(raw.kind).takes_constant() || layout.has(Section::Constants, raw.a)
 }
 
 fn text_of_constant_inside(layout: Layout<'_>, number: u32) -> bool
@@ -111,6 +108,7 @@ pub fn first_jump_outside(layout: Layout<'_>, number: u32) -> Option<u32>
     first_not(count, |place| jump_inside(layout, number, place))
 }
 
+// As `jump_inside`, of another field; what looks for the first place is one, `first_not`.
 fn is_load(layout: Layout<'_>, number: u32, place: u32) -> bool
     ensures { result ≡ loads_at layout.entry.bytes.now number place }
 {
@@ -141,8 +139,7 @@ fn keeps(layout: Layout<'_>, rule: RecordRule, number: u32) -> bool
             Section::Text,
             layout.record::<TemplateRecord>(number).name,
         ),
-        RecordRule::TemplateMain => exists(
-            layout,
+        RecordRule::TemplateMain => layout.has(
             Section::Codes,
             layout.record::<TemplateRecord>(number).main,
         ),
@@ -156,8 +153,7 @@ fn keeps(layout: Layout<'_>, rule: RecordRule, number: u32) -> bool
             Section::Text,
             layout.record::<BlockRecord>(number).name,
         ),
-        RecordRule::BlockCode => exists(
-            layout,
+        RecordRule::BlockCode => layout.has(
             Section::Codes,
             layout.record::<BlockRecord>(number).code,
         ),
@@ -180,9 +176,10 @@ fn keeps(layout: Layout<'_>, rule: RecordRule, number: u32) -> bool
         RecordRule::InstructionKind => fields_of_kind(
             layout.record::<InstructionRecord>(number).kind,
         ).is_allowed(),
-        RecordRule::InstructionFields => fields_of_kind(
-            layout.record::<InstructionRecord>(number).kind,
-        ).fields_allowed(layout.record::<InstructionRecord>(number)),
+        RecordRule::InstructionFields => {
+            let raw = layout.record::<InstructionRecord>(number);
+            fields_of_kind(raw.kind).fields_allowed(raw)
+        }
         RecordRule::ConstantKind => ConstantKind::try_from(
             layout.record::<ConstantRecord>(number).kind,
         ).is_ok(),

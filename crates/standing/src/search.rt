@@ -62,6 +62,7 @@ impl<'t> Search<'t> {
         }
     }
 
+    // That entries and code stay where they were is said by each method, since the struct holds a `&mut`.
     // Visits a place: the instruction there is not broken, and what it leaves is noted where it goes on.
     fn visit(&mut self, place: u32) -> Result<(), Reason>
         requires { Searching self.old.code.now self.old.entries.now self.old.pending.now.items (Some place) }

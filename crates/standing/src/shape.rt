@@ -5,8 +5,8 @@ ghost use Rattle.standing.specs.Paths.{shape_at};
 ghost use Rattle.standing.specs.Entries.{opens_mark};
 ghost use Rattle.standing.specs.declared.shape.Shape.TheVariants.{Plain};
 
-use std::error::Error;
-use std::fmt;
+use crate::{MAX_HEIGHT, MAX_INSTRUCTIONS, MAX_MARKS};
+use thiserror::Error;
 
 // What opens a mark: a `with`, a capture, or a loop, which is recursive or not.
 #[derive(Clone, Copy, PartialEq, Eq, Debug)]
@@ -88,30 +88,33 @@ impl Shape {
 pub(crate) fn shape_at(code: &[Shape], place: u32) -> Shape
     ensures { result ≡ shape_at code.now place }
 {
-    code.get(place as usize)
-        .copied()
-        .unwrap_or(Shape::Plain { takes: 0, gives: 0 })
+    code.get(place as usize).copied().unwrap_or_default()
 }
 
 // Why an instruction cannot stand where a path brings it, or why what it leaves cannot stand.
-#[derive(Clone, Copy, PartialEq, Eq, Debug)]
+#[derive(Clone, Copy, PartialEq, Eq, Debug, Error)]
 pub enum Reason {
-    // it takes an operand that is not there, or that was there before the innermost mark opened
+    #[error("it takes an operand that is not there, or that lies below the innermost open mark")]
     TakesBelow,
+    #[error("no loop is open")]
     NoLoop,
-    // the innermost mark is not the one that it closes
+    #[error("the innermost open mark is not one that it closes")]
     WrongPartner,
-    // a recursive loop closes at another height than it opened at
+    #[error("a recursive loop closes higher than it opened")]
     ClosesHigher,
+    #[error("a capture is open")]
     OpenCapture,
+    #[error("it leaves more than {} operands", MAX_HEIGHT)]
     TooHigh,
+    #[error("it leaves more than {} open marks", MAX_MARKS)]
     TooManyMarks,
-    // another path brings another standing
+    #[error("it goes on where another path brings other operands or open marks")]
     PathsDiffer,
-    // the code ends with an operand or an open mark
+    #[error("the code ends after it with an operand or an open mark left")]
     NotEmptyAtEnd,
+    #[error("it goes on outside its code")]
     Outside,
-    // the code has more instructions than a code may have
+    #[error("the code has more than {} instructions", MAX_INSTRUCTIONS)]
     TooLong,
 }
 
@@ -121,46 +124,13 @@ pub(crate) fn ensure(holds: bool, reason: Reason) -> Result<(), Reason>
     if holds { Ok(()) } else { Err(reason) }
 }
 
-impl fmt::Display for Reason {
-    fn fmt<W: fmt::Write>(&self, f: &mut fmt::Formatter<W>) -> fmt::Result {
-        f.write_str(match self {
-            Reason::TakesBelow =>
-                "it takes an operand that is not there, or that lies below the innermost open mark",
-            Reason::NoLoop => "no loop is open",
-            Reason::WrongPartner => "the innermost open mark is not one that it closes",
-            Reason::ClosesHigher => "a recursive loop closes higher than it opened",
-            Reason::OpenCapture => "a capture is open",
-            Reason::TooHigh => "it leaves more than 64 operands",
-            Reason::TooManyMarks => "it leaves more than 16 open marks",
-            Reason::PathsDiffer =>
-                "it goes on where another path brings other operands or open marks",
-            Reason::NotEmptyAtEnd => "the code ends after it with an operand or an open mark left",
-            Reason::Outside => "it goes on outside its code",
-            Reason::TooLong => "the code has more than 1024 instructions",
-        })
-    }
-}
-
-impl Error for Reason {}
-
 // An instruction whose standing is broken, by its place in the code.
-#[derive(Clone, Copy, PartialEq, Eq, Debug)]
+#[derive(Clone, Copy, PartialEq, Eq, Debug, Error)]
+#[error("the instruction at place {place}: {reason}")]
 pub struct Broken {
     pub place: u32,
     pub reason: Reason,
 }
-
-impl fmt::Display for Broken {
-    fn fmt<W: fmt::Write>(&self, f: &mut fmt::Formatter<W>) -> fmt::Result {
-        write!(
-            f,
-            "the instruction at place {}: {}",
-            self.place, self.reason
-        )
-    }
-}
-
-impl Error for Broken {}
 
 #[cfg(test)]
 mod tests {

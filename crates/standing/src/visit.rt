@@ -80,6 +80,7 @@ impl Visit<'_> {
         }
     }
 
+    // A table, as the definition is: a line for what each shape does.
     // Whether the instruction can stand here.
     fn stands(&self) -> Result<(), Reason>
         ensures { result_err result ≡ entry_broken self.now.shape (mark_of self.now.code.now self.now.entries.now self.now.entry.inner) self.now.entry }

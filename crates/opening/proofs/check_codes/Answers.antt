@@ -1,4 +1,4 @@
-use Rattle.std.proofs.Common.{◌+◌, ◌<◌, ltb, length, take, sym, refl, ap, ◌∙◌, arith, below_more}
+use Rattle.std.proofs.Common.{◌≡◌, ℕ, ◌+◌, ◌<◌, List, ltb, length, take, sym, refl, ap, ◌∙◌, arith, below_more}
 use Rattle.std.specs.Option.{option_map}
 use Rattle.std.proofs.lemmas.Bool.{cond-true, lt-ltb}
 use Rattle.layout.specs.Layout.{records}
@@ -13,13 +13,17 @@ use Rattle.opening.proofs.Verdict.{judged_stands, judged_broken}
 use Rattle.opening.proofs.check_codes.Goals as goal
 use Rattle.opening.proofs.check_codes.Goals.{in-Some+in_default-check_code, in_default}
 
+-- the code that was read has the number that was asked for
+named : {b c : List ℕ} {n k : ℕ} → c ≡ b → k ≡ n → n < records b Codes → k < records c Codes
+named bytes number l = omega (arith, number, ap (λ x. records x Codes) bytes)
+
 pub returns-in-Err : goal.returns-in-Err
 returns-in-Err c =
     let l : c.loop-number.number < records c.args.bundle.layout.bytes.now Codes =
     omega (arith, ap (λ (h : Header). h.codes.count) c.header-number-end.ensures) in
     let p = c.in-Some.ensures.place in
     judged_broken c.args.bundle.layout.bytes.now c.in-Some.code.layout.bytes.now c.loop-number.number c.in-Some.code.number
-    p.0 p.1 c.args.bundle.clean l c.in-Err.ensures
+    p.0 p.1 c.args.bundle.clean l (c.in-Err.ensures (named p.0 p.1 l))
 
 pub loop-number-preserved : goal.loop-number-preserved
 loop-number-preserved c =
@@ -31,7 +35,7 @@ loop-number-preserved c =
           let p = w.in-Some.ensures.place in
           judged_stands c.args.bundle.layout.bytes.now w.in-Some.code.layout.bytes.now c.loop-number.number w.in-Some.code.number
           p.0 p.1 (λ xs. take (length xs + 1) w.check_code.new.table.entries) w.check_code.result
-          w.check_code.ensures w.in_default-check_code.not-Err
+          (w.check_code.ensures (named p.0 p.1 l)) w.in_default-check_code.not-Err
       | in_default w ↦
           let e = sym (cond-true (ltb c.loop-number.number (records c.args.bundle.layout.bytes.now Codes)) _ _ (lt-ltb _ _ l)) in
           absurd (none_some (code c.args.bundle.layout.bytes.now c.loop-number.number) refl

@@ -1,4 +1,4 @@
-use Rattle.std.proofs.Common.{◌≡◌, ℕ, List, Some, None, sym, refl, ap, ◌∙◌, arith}
+use Rattle.std.proofs.Common.{◌≡◌, ℕ, List, sym, refl, ap, ◌∙◌, arith}
 use Rattle.std.proofs.lemmas.Bool.{eq-eqb, ne_eqb}
 use Rattle.layout.specs.Layout.{records}
 use Rattle.layout.specs.declared.section.Section.{Section}
@@ -6,9 +6,8 @@ use Rattle.layout.proofs.EachBelow.{each_more, stops_at, runs_out}
 use Rattle.rules.specs.Rules.{keeps, owned_in, section_owned}
 use Rattle.rules.specs.declared.Owned.{Owned}
 use Rattle.rules.specs.declared.Rule.TheVariants.{Owner}
-use Rattle.causes.proofs.Search.{alone}
 use Rattle.causes.proofs.Tallies.{scan_none, turn}
-use Rattle.causes.proofs.headed.Headed.check_owned.Goals as goal
+use Rattle.causes.proofs.headed.Headed.first_not_owned_once.Goals as goal
 
 count_is : (b : List ℕ) (o : Owned) (s : Section) (n : ℕ) → s ≡ section_owned o → n ≡ records b s → n ≡ owned_in b o
 count_is b o s n e h = h ∙ ap (records b) e
@@ -38,10 +37,9 @@ returns-then-owners-ne1 c =
     turn c.args.self.layout.bytes.now c.args.owned c.loop-number.number c.count-number-end.result c.loop-number.owners c.tally-tally.result _
     c.args.self.right (count_is _ _ _ _ c.section.ensures c.count-number-end.ensures) c.loop-number-test.true refl c.loop-number.invariant.scanned
     c.tally-tally.ensures.starts c.tally-tally.ensures.ends in
-    alone c.args.self.layout.bytes.now (Owner c.args.owned) (Some c.loop-number.number)
-    (stops_at (keeps c.args.self.layout.bytes.now (Owner c.args.owned)) c.count-number-end.result _ c.loop-number.number
+    stops_at (keeps c.args.self.layout.bytes.now (Owner c.args.owned)) c.count-number-end.result _ c.loop-number.number
     (count_is _ _ _ _ c.section.ensures c.count-number-end.ensures) c.loop-number-test.true c.loop-number.invariant.owned_once
-    (ne_eqb _ 1 (λ e. c.if-owners-ne1.true (t.is ∙ e))))
+    (ne_eqb _ 1 (λ e. c.if-owners-ne1.true (t.is ∙ e)))
 
 pub loop-number-preserved : goal.loop-number-preserved
 loop-number-preserved c =
@@ -57,6 +55,5 @@ loop-number-preserved c =
 
 pub returns : goal.returns
 returns c =
-    alone c.args.self.layout.bytes.now (Owner c.args.owned) None
-    (runs_out (keeps c.args.self.layout.bytes.now (Owner c.args.owned)) c.count-number-end.result _ c.loop-number.number
-    (count_is _ _ _ _ c.section.ensures c.count-number-end.ensures) c.loop-number-test.false c.loop-number.invariant.owned_once)
+    runs_out (keeps c.args.self.layout.bytes.now (Owner c.args.owned)) c.count-number-end.result _ c.loop-number.number
+    (count_is _ _ _ _ c.section.ensures c.count-number-end.ensures) c.loop-number-test.false c.loop-number.invariant.owned_once

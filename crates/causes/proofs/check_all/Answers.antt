@@ -1,7 +1,7 @@
 use Rattle.std.proofs.Common.{refl}
 use Rattle.std.proofs.lemmas.Result.{err_from_is_err_and}
 use Rattle.causes.proofs.Search.{in_header, in_references, in_fields, in_names}
-use Rattle.causes.proofs.check.Goals as goal
+use Rattle.causes.proofs.check_all.Goals as goal
 
 pub returns-in_err-headed : goal.returns-in_err-headed
 returns-in_err-headed c =
