@@ -62,8 +62,8 @@ impl<'t> Search<'t> {
         }
     }
 
-    // That entries and code stay where they were is said by each method, since the struct holds a `&mut`.
     // Visits a place: the instruction there is not broken, and what it leaves is noted where it goes on.
+    // That entries and code stay where they were is said by each method, since the struct holds a `&mut`.
     fn visit(&mut self, place: u32) -> Result<(), Reason>
         requires { Searching self.old.code.now self.old.entries.now self.old.pending.now.items (Some place) }
         ensures same_entries { self.new.entries.ghost_name ≡ self.old.entries.ghost_name }

@@ -50,7 +50,7 @@ impl Visit<'_> {
         shape_at(self.code, place).opens(place, entry.height)
     }
 
-    // Whether there are so many operands above the height at which the innermost mark opened.
+    // Whether so many operands are there above those that stood when the innermost open mark began.
     fn takes(&self, mark: Option<Mark>, number: u16) -> Result<(), Reason>
         ensures { result_err result ≡ takes (mark_floor mark) number self.now.entry.height }
     {
@@ -80,8 +80,7 @@ impl Visit<'_> {
         }
     }
 
-    // A table, as the definition is: a line for what each shape does.
-    // Whether the instruction can stand here.
+    // Whether the instruction can stand here. A table, as the definition is: a line for what each shape does.
     fn stands(&self) -> Result<(), Reason>
         ensures { result_err result ≡ entry_broken self.now.shape (mark_of self.now.code.now self.now.entries.now self.now.entry.inner) self.now.entry }
     {

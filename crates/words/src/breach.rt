@@ -30,8 +30,7 @@ impl fmt::Display for Breach<'_> {
     }
 }
 
-// `Display` of a section has the plural.
-// What one record of the section is called.
+// What one record of the section is called: its `Display` has the plural.
 fn record_name(section: Section) -> &'static str {
     match section {
         Section::Templates => "template",
