@@ -36,6 +36,15 @@ pub fn examine<'b>(bytes: &'b [u8]) -> Result<Examined<'b>, Defect>
     ensures owners { RecordsHaveOneOwner bytes.now }
     ensures content { AgreeingBundlesHoldOneProgram bytes.now }
 {
+    checked(bytes)
+}
+
+// The check proves this by itself; `examine` adds the laws.
+fn checked<'b>(bytes: &'b [u8]) -> Result<Examined<'b>, Defect>
+    ensures lowest { told result ≡ format_cause bytes.now }
+    ensures refused { refusal result ≡ defect bytes.now }
+    ensures accepted { IfOk result (λ e. bytes_of e ≡ bytes.now) }
+{
     check(bytes)?;
     Ok(Examined {
         layout: Layout { bytes },

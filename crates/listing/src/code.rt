@@ -10,11 +10,15 @@ use std::fmt;
 #[derive(Clone, Copy)]
 pub(super) struct ListedCode<'b>(pub(super) Code<'b>);
 
-impl fmt::Display for ListedCode<'_> {
-    fn fmt<W: fmt::Write>(&self, f: &mut fmt::Formatter<W>) -> fmt::Result {
+// No `Display`: one table is lent to all codes, since to make one takes longer than to list a short code.
+impl ListedCode<'_> {
+    pub(super) fn show<W: fmt::Write>(
+        self,
+        f: &mut fmt::Formatter<W>,
+        table: &mut Table,
+    ) -> fmt::Result {
         let code = self.0;
-        let mut table = Table::new();
-        let _ = check_code(code, &mut table);
+        let _ = check_code(code, table);
         for place in 0..code.len() {
             match table.entry(place) {
                 Some(entry) => write!(f, "{place:>8} {:>3}  ", entry.height)?,
@@ -26,7 +30,7 @@ impl fmt::Display for ListedCode<'_> {
             if let Some(line) = code.get_line(place) {
                 write!(f, "   line {line}")?;
             }
-            show_marks(f, code, place, &table)?;
+            show_marks(f, code, place, table)?;
             writeln!(f)?;
         }
         Ok(())

@@ -14,12 +14,16 @@ use bundle::view::{Block, Examined, Template};
 use code::ListedCode;
 use console::escape::Escaped;
 use layout::section::{Header, Section};
+use standing::table::Table;
 use std::alloc::{AllocError, Global};
 use std::fmt;
 
 // The header of a bundle and its templates.
 #[derive(Clone, Copy)]
 struct Parts<'b>(Examined<'b>);
+
+// With how many bytes the room for a listing begins; it doubles each time that it is full.
+const FIRST_ROOM: usize = 40;
 
 fn size_line(heap: Global, size: usize) -> Result<String, AllocError>
     ensures { IfOk result (λ s. string_bytes s ≡ size_line size) }
@@ -32,8 +36,11 @@ pub fn list(heap: Global, bundle: Examined<'_>) -> Result<String, AllocError>
     ensures { IfOk result (λ s. StartsWith (string_bytes s) (size_line (length bundle.entry.layout.bytes.now))) }
 {
     let size = size_line(heap, bundle.bytes().len())?;
-    let parts = Parts(bundle).to_string(heap)?;
-    format!(in heap; "{size}{parts}")
+    // The rest can be long: it is not held twice, but moved up to make room for the line.
+    let mut listing = String::with_capacity(heap, FIRST_ROOM)?;
+    write!(listing, "{}", Parts(bundle))?;
+    listing.insert_str(0, size.as_str())?;
+    Ok(listing)
 }
 
 impl fmt::Display for Parts<'_> {
@@ -41,9 +48,10 @@ impl fmt::Display for Parts<'_> {
         let bundle = self.0;
         let header = bundle.header();
         show_header(f, header)?;
+        let mut table = Table::new();
         for number in 0..header.templates.count {
             if let Some(template) = bundle.template(number) {
-                write!(f, "{}", ListedTemplate { number, template })?;
+                ListedTemplate { number, template }.show(f, &mut table)?;
             }
         }
         Ok(())
@@ -83,10 +91,8 @@ impl<'b> ListedTemplate<'b> {
         let number = self.template.raw.blocks.first as u64 + place as u64;
         Some(ListedBlock { number, block })
     }
-}
 
-impl fmt::Display for ListedTemplate<'_> {
-    fn fmt<W: fmt::Write>(&self, f: &mut fmt::Formatter<W>) -> fmt::Result {
+    fn show<W: fmt::Write>(self, f: &mut fmt::Formatter<W>, table: &mut Table) -> fmt::Result {
         let template = self.template;
         let main = template.main();
         writeln!(f)?;
@@ -96,10 +102,11 @@ impl fmt::Display for ListedTemplate<'_> {
             self.number,
             Escaped(template.name())
         )?;
-        write!(f, "  main, code {}\n{}", main.number, ListedCode(main))?;
+        writeln!(f, "  main, code {}", main.number)?;
+        ListedCode(main).show(f, table)?;
         for place in 0..template.block_count() {
             if let Some(block) = self.block(place) {
-                write!(f, "{block}")?;
+                block.show(f, table)?;
             }
         }
         Ok(())
@@ -112,9 +119,9 @@ struct ListedBlock<'b> {
     block: Block<'b>,
 }
 
-impl fmt::Display for ListedBlock<'_> {
-    fn fmt<W: fmt::Write>(&self, f: &mut fmt::Formatter<W>) -> fmt::Result {
-        let ListedBlock { number, block } = *self;
+impl ListedBlock<'_> {
+    fn show<W: fmt::Write>(self, f: &mut fmt::Formatter<W>, table: &mut Table) -> fmt::Result {
+        let ListedBlock { number, block } = self;
         let code = block.code();
         let required = if code.is_required_block() {
             ", required"
@@ -127,6 +134,6 @@ impl fmt::Display for ListedBlock<'_> {
             Escaped(block.name()),
             code.number
         )?;
-        write!(f, "{}", ListedCode(code))
+        ListedCode(code).show(f, table)
     }
 }

@@ -22,23 +22,27 @@ use standing::MAX_INSTRUCTIONS;
 use standing::shape::{Broken, Reason, Shape};
 use standing::table::Table;
 
-// What the instructions of a code do.
-fn shapes_of(code: Code<'_>) -> ArrayVec<Shape, MAX_INSTRUCTIONS>
+// Reads what the instructions of a code do, in the place of what the list had.
+fn read_shapes(code: Code<'_>, shapes: &mut ArrayVec<Shape, MAX_INSTRUCTIONS>)
     requires { length (code_view code).steps ≤ 1024 }
-    ensures { code.entry.number < records code.entry.layout.bytes.now Codes → result.items ≡ code_shapes code.entry.layout.bytes.now code.entry.number }
+    ensures { code.entry.number < records code.entry.layout.bytes.now Codes → shapes.new.items ≡ code_shapes code.entry.layout.bytes.now code.entry.number }
 {
-    let mut shapes = ArrayVec::new();
+    shapes.clear();
     for place in 0..code.len() {
         if let Some(instruction) = code.get(place) {
             shapes.push(shape_of(instruction));
         }
     }
-    shapes
 }
 
-// Whether a code stands. If it does, the table has what the paths bring to each of its places.
+// As `check_code`, with a list that is lent for the shapes: to make one for each code takes longer than to check a short
+// code.
 #[tactic(auto, using(crate::proofs::Reading::shapes_long))]
-pub fn check_code(code: Code<'_>, table: &mut Table) -> Result<(), Broken>
+fn check_with(
+    code: Code<'_>,
+    table: &mut Table,
+    shapes: &mut ArrayVec<Shape, MAX_INSTRUCTIONS>,
+) -> Result<(), Broken>
     ensures { code.entry.number < records code.entry.layout.bytes.now Codes → Judged (code_shapes code.entry.layout.bytes.now code.entry.number) (take (length (code_shapes code.entry.layout.bytes.now code.entry.number) + 1) table.new.entries) result }
 {
     // A code of a bundle is never too long, but its field `number` is public and may be the number of none.
@@ -48,7 +52,16 @@ pub fn check_code(code: Code<'_>, table: &mut Table) -> Result<(), Broken>
             reason: Reason::TooLong,
         });
     }
-    table.check(shapes_of(code).as_slice())
+    read_shapes(code, shapes);
+    table.check(shapes.as_slice())
+}
+
+// Whether a code stands. If it does, the table has what the paths bring to each of its places.
+pub fn check_code(code: Code<'_>, table: &mut Table) -> Result<(), Broken>
+    ensures { code.entry.number < records code.entry.layout.bytes.now Codes → Judged (code_shapes code.entry.layout.bytes.now code.entry.number) (take (length (code_shapes code.entry.layout.bytes.now code.entry.number) + 1) table.new.entries) result }
+{
+    let mut shapes = ArrayVec::new();
+    check_with(code, table, &mut shapes)
 }
 
 // Looks for the first code of the bundle that does not stand.
@@ -56,10 +69,11 @@ fn check_codes(bundle: Examined<'_>) -> Result<(), BrokenCode>
     ensures { MatchResult result (λ _. AllStand bundle.entry.layout.bytes.now) (λ x. IsBrokenCode bundle.entry.layout.bytes.now x.code) }
 {
     let mut table = Table::new();
+    let mut shapes = ArrayVec::new();
     for number in 0..bundle.header().codes.count {
         if let Some(code) = bundle.code(number) {
             // Tried as `map_err(..)?`: the proof of the loop did not close.
-            if let Err(broken) = check_code(code, &mut table) {
+            if let Err(broken) = check_with(code, &mut table, &mut shapes) {
                 return Err(BrokenCode {
                     code: number,
                     broken,

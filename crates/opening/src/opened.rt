@@ -1,6 +1,7 @@
 // A bundle that opens.
 ghost use Rattle.std.specs.Prelude.{◌≡◌, IfErr, IfOk, MatchResult};
-ghost use Rattle.causes.specs.Causes.{cause};
+ghost use Rattle.bundle.specs.View.{bytes as bytes_of, refusal};
+ghost use Rattle.causes.specs.Causes.{cause, defect};
 ghost use Rattle.opening.specs.Opening.{AllStand, Lowest, empty_bundle};
 ghost use Rattle.opening.specs.Refusals.{told, Shows};
 
@@ -8,6 +9,7 @@ use crate::check_codes;
 use crate::refusal::Refusal;
 use bundle::examine;
 use bundle::view::Examined;
+use causes::defect::Defect;
 
 // It has none of the causes 1 to 5.
 #[derive(Clone, Copy)]
@@ -37,19 +39,20 @@ impl<'b> Bundle<'b> {
     }
 
     // The check proves this by itself; `empty` rests on it.
-    fn read_empty() -> Result<Bundle<'b>, Refusal>
-        ensures shown { IfErr result (λ x. Shows empty_bundle x) }
-        ensures opened { IfOk result (λ x. x.parts.layout.bytes.now ≡ empty_bundle) }
+    fn read_empty() -> Result<Examined<'b>, Defect>
+        ensures refused { refusal result ≡ defect empty_bundle }
+        ensures accepted { IfOk result (λ x. bytes_of x ≡ empty_bundle) }
     {
-        Bundle::new(&EMPTY)
+        examine(&EMPTY)
     }
 
     // The bundle that every record begins with.
     pub fn empty() -> Bundle<'b>
         ensures { result.parts.layout.bytes.now ≡ empty_bundle }
     {
+        // No code of it has to be checked: it has none.
         match Bundle::read_empty() {
-            Ok(bundle) => bundle,
+            Ok(parts) => Bundle { parts },
             Err(_) => unreachable(),
         }
     }

@@ -1,9 +1,9 @@
 -- The codes on top of a stack, of which the array has the bottom first.
 use Rattle.std.proofs.Common.{◌≡◌, ℕ, zero, suc, ◌+◌, ◌-◌, ◌<◌, ◌≤◌, List, [], ◌∷◌, ◌++◌, reverse, length, get_or, take, drop, None, Some, Option, sym, refl, ap, ◌∙◌, add-one, arith, length-drop}
-use Rattle.std.proofs.lemmas.List.{take_all, take_more, reverse-append, length-reverse}
+use Rattle.std.proofs.lemmas.List.{take_more, reverse-append, length-reverse, length-take-le, drop-take}
 use Rattle.operands.specs.declared.operand.Operand.{Operand}
 use Rattle.operands.specs.Stack.{code_of, and_code, top_codes}
-use Rattle.operands.proofs.Reversed.{reverse-split}
+use Rattle.operands.proofs.Reversed.{reverse-split, length-shown}
 
 pub too_few : (n : ℕ) (vs : List Operand) → length vs < n → top_codes n vs ≡ None
 too_few zero vs h = absurd (omega arith)
@@ -26,12 +26,14 @@ front vs ws zero h = refl
 front [] ws (suc n) h = absurd (omega arith)
 front (v ∷ vs) ws (suc n) h = ap (λ o. and_code o (code_of v)) (front vs ws n (omega arith))
 
--- the last of the array are the top ones
-pub top_codes-tail : (n k : ℕ) (vs : List Operand) → n + k ≡ length vs → top_codes n (reverse (take (length vs - k) (drop k vs))) ≡ top_codes n (reverse vs)
-top_codes-tail n k vs e =
-    let long = length-drop k vs in
-    ap (λ ws. top_codes n (reverse ws)) (take_all (length vs - k) (drop k vs) (omega arith))
-    ∙ sym (ap (top_codes n) (reverse-split k vs) ∙ front _ _ n (omega (arith, length-reverse (drop k vs))))
+-- the last of those that there are, from the array
+pub top_codes-tail : (n k h : ℕ) (vs : List Operand) → n + k ≡ h → h ≤ length vs → top_codes n (reverse (take (h - k) (drop k vs))) ≡ top_codes n (reverse (take h vs))
+top_codes-tail n k h vs e l =
+    let all : k + (h - k) ≡ h = omega arith in
+    let below = take h vs in
+    let long = length-take-le h vs l in
+    ap (λ ws. top_codes n (reverse ws)) (sym (drop-take k (h - k) vs) ∙ ap (λ i. drop k (take i vs)) all)
+    ∙ sym (ap (top_codes n) (reverse-split k below) ∙ front _ _ n (omega (arith, length-reverse (drop k below), length-drop k below)))
 
 module _ (vs : List Operand) (i : ℕ) (d : Operand) (h : i < length vs) where
   reverse_more : reverse (take (i + 1) vs) ≡ get_or vs i d ∷ reverse (take i vs)
@@ -46,3 +48,5 @@ module _ (vs : List Operand) (i : ℕ) (d : Operand) (h : i < length vs) where
       ap (top_codes (length vs)) (reverse-split (i + 1) vs)
       ∙ stays_none (reverse below) (reverse (take (i + 1) vs)) (length vs) (i + 1) (omega (arith, length-reverse below, length-drop (i + 1) vs))
       (next_codes ∙ ap (and_code (top_codes i (reverse (take i vs)))) e ∙ and_none (top_codes i (reverse (take i vs))))
+
+pub ruleset tops = (length-shown, too_few, top_codes-tail)

@@ -30,7 +30,7 @@ impl Operand {
         ensures { result ≡ forgotten_of frame self }
     {
         match self {
-            Operand::Loop(below) if below == frame => Operand::Ended,
+            Operand::Loop(below) => if below == frame { Operand::Ended } else { self },
             _ => self,
         }
     }

@@ -2,7 +2,7 @@ use Rattle.std.proofs.Common.{◌≡◌, ◌<◌, ◌≤◌, length, take}
 use Rattle.layout.specs.Layout.{records}
 use Rattle.layout.specs.declared.section.Section.TheVariants.{Codes}
 use Rattle.opening.specs.Opening.{code_shapes}
-use Rattle.opening.proofs.shapes_of.Given as goal
+use Rattle.opening.proofs.read_shapes.Given as goal
 
 abbrev pub invariant-loop-place : goal.invariant-loop-place
 invariant-loop-place l =

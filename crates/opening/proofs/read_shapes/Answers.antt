@@ -7,8 +7,8 @@ use Rattle.standing.specs.declared.shape.Shape.{Shape}
 use Rattle.bundle.specs.Decoded.{code}
 use Rattle.opening.specs.Opening.{code_shapes}
 use Rattle.opening.proofs.Reading.{some_nth, shapes_long, one_more}
-use Rattle.opening.proofs.shapes_of.Goals as goal
-use Rattle.opening.proofs.shapes_of.Goals.{in-Some, in_default}
+use Rattle.opening.proofs.read_shapes.Goals as goal
+use Rattle.opening.proofs.read_shapes.Goals.{in-Some, in_default}
 
 pub push-requires : goal.push-requires
 push-requires c = (omega arith, omega (arith, c.loop-place.invariant.0, c.len-place-end.ensures, c.requires))
